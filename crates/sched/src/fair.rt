@@ -5,7 +5,7 @@ use crate::tasks::Tasks;
 use crate::wants::Wants;
 use quantities::ids::TaskId;
 use quantities::promises::Weight;
-use virtual_time::Position;
+use virtual_time::position::Position;
 
 // Positions are taken down when the mark has come so far, so that they stay small for ever.
 const FAR: u32 = 1024;

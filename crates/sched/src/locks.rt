@@ -34,8 +34,9 @@ impl Locks {
     // Whether it owns any lock.
     pub fn owns_any(&self, i: TaskId) -> bool {
         for m in 0..64usize {
-            if let Some(owner) = self.owners[m] {
-                if owner.index() == i.index() {
+            let owner = self.owners[m];
+            if let Some(j) = owner {
+                if j.index() == i.index() {
                     return true;
                 }
             }
