@@ -20,14 +20,14 @@ NotBehindIsTransitive = (f r o g s p h t q : ℕ) → 0 < p → lessFar f r o g 
 abbrev pub LoweringKeepsOrder : Type 0
 LoweringKeepsOrder = (f r o g s p by : ℕ) → by ≤ f → by ≤ g → lessFar (f - by) r o (g - by) s p ≡ lessFar f r o g s p
 
--- STEPS, of a position whose rest is less than a whole. A tick leads beyond it.
+-- STEPS, from a position of positive weight. A tick leads beyond it.
 abbrev pub AdvanceIsBeyond : Type 0
-AdvanceIsBeyond = (f r o : ℕ) → r < o → lessFar f r o (tickedFar f r o) (tickedRest r o) o ≡ true
+AdvanceIsBeyond = (f r o : ℕ) → 0 < o → lessFar f r o (tickedFar f r o) (tickedRest r o) o ≡ true
 
 -- Who joins it is not behind it.
 abbrev pub CeilingIsNotBehind : Type 0
-CeilingIsNotBehind = (f r o w : ℕ) → r < o → lessFar (joinedFar f r o w) (joinedRest r o w) w f r o ≡ false
+CeilingIsNotBehind = (f r o w : ℕ) → 0 < o → lessFar (joinedFar f r o w) (joinedRest r o w) w f r o ≡ false
 
 -- Who is made is beyond it.
 abbrev pub MadeIsBeyond : Type 0
-MadeIsBeyond = (f r o w : ℕ) → r < o → 0 < w → lessFar f r o (madeFar f r o w) (madeRest r o w) w ≡ true
+MadeIsBeyond = (f r o w : ℕ) → 0 < o → lessFar f r o (madeFar f r o w) (madeRest r o w) w ≡ true
