@@ -1,4 +1,5 @@
 -- What order among positions can be relied on, and where a step leads in it.
+-- Wholes are uncapped here: the laws of steps hold of the code's positions where the result is short of the cap.
 use mathlib.Core.Path.{_≡_}
 use mathlib.Core.Bool.{true, false}
 use Prim.Native.Nat.{ℕ, _-_, _<_, _≤_}

@@ -1,4 +1,5 @@
-// The laws of positions, each stated by a function that does nothing else.
+// The laws of positions, each stated by a function that does nothing else: which of two is behind is an order,
+// and each step leads where its name says.
 ghost use Rattle.virtual_time.specs.Laws.{BehindIsIrreflexive, BehindIsTransitive, NotBehindIsTransitive, LoweringKeepsOrder};
 ghost use Rattle.virtual_time.specs.Laws.{AdvanceIsBeyond, CeilingIsNotBehind, MadeIsBeyond};
 
