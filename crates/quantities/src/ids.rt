@@ -30,7 +30,7 @@ impl TaskId {
         ensures value { λ r. ⌜ r ≡ self .index ⌝ }
         ensures bound { λ r. ⌜ r < 64 ⌝ }
     {
-        self.index as usize
+        self.number() as usize
     }
 
     pub fn number(self) -> u32

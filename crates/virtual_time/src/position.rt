@@ -18,7 +18,7 @@ pub struct Position {
 }
 
 impl Position {
-    // Where the time of a task of that weight begins.
+    // Where the time of that weight begins. A mark that no task has set yet is the start of weight one.
     pub fn start(weight: Weight) -> Self
         ensures whole { λ r. ⌜ r .whole ≡ 0 ⌝ }
         ensures rest { λ r. ⌜ r .rest ≡ 0 ⌝ }
