@@ -17,34 +17,33 @@ const SIZE: usize = 65536;
 const LONGEST_LINE: usize = 2048;
 
 #[derive(Drop)]
-pub struct Page<S: Sink + Drop> {
-    sink: S,
+pub struct Page {
     bytes: [u8; 65536],
     len: usize,
     ghost within: { len ≤ 65536 },
 }
 
-impl<S: Sink + Drop> Page<S> {
-    pub fn new(sink: S) -> Self {
-        Page { sink, bytes: [0; 65536], len: 0 }
+impl Page {
+    pub fn new() -> Page {
+        Page { bytes: [0; 65536], len: 0 }
     }
 
     // What was gathered is handed on.
-    pub fn flush(&mut self) -> Result<(), Stopped> {
+    pub fn flush<S: Sink>(&mut self, out: &mut S) -> Result<(), Stopped> {
         let len = self.len;
         self.len = 0;
         if len == 0 {
             return Ok(());
         }
         let bytes = &self.bytes;
-        self.sink.take(&bytes[..len])
+        out.take(&bytes[..len])
     }
 
     // The line ends; the next one will find room.
-    pub fn end_line(&mut self) -> Result<(), Stopped> {
+    pub fn end_line<S: Sink>(&mut self, out: &mut S) -> Result<(), Stopped> {
         self.put(b'\n');
         if self.len > SIZE - LONGEST_LINE {
-            return self.flush();
+            return self.flush(out);
         }
         Ok(())
     }

@@ -10,65 +10,68 @@ use sched::Answer;
 use sched::Next;
 
 #[derive(Drop)]
-pub struct Player<S: Sink + Drop> {
+pub struct Player {
     theatre: Theatre,
-    page: Page<S>,
+    page: Page,
     line: Line,
     // how many lines were ended
     lines: u64,
 }
 
-impl<S: Sink + Drop> Player<S> {
-    pub fn new(sink: S) -> Self {
-        Player { theatre: Theatre::new(), page: Page::new(sink), line: Line::new(), lines: 0 }
+impl Player {
+    pub fn new() -> Player {
+        Player { theatre: Theatre::new(), page: Page::new(), line: Line::new(), lines: 0 }
     }
 
     // More of the script. The answers to all of its whole lines have been handed on when it returns.
-    pub fn feed(&mut self, bytes: &[u8]) -> Result<(), Stopped> {
+    pub fn feed<S: Sink>(&mut self, bytes: &[u8], out: &mut S) -> Result<(), Stopped> {
         for byte in bytes {
             if *byte == b'\n' {
-                self.end_line()?;
+                self.end_line(out)?;
             } else {
                 self.line.push(*byte);
             }
         }
-        self.page.flush()
+        self.page.flush(out)
     }
 
     // The script is over; a last line may lack its newline.
-    pub fn finish(&mut self) -> Result<(), Stopped> {
+    pub fn finish<S: Sink>(&mut self, out: &mut S) -> Result<(), Stopped> {
         if self.line.is_begun() {
-            self.end_line()?;
+            self.end_line(out)?;
         }
-        self.page.flush()
+        self.page.flush(out)
     }
 
-    fn end_line(&mut self) -> Result<(), Stopped> {
+    fn end_line<S: Sink>(&mut self, out: &mut S) -> Result<(), Stopped> {
         self.lines = self.lines.saturating_add(1);
         let command = self.line.command();
         self.line = Line::new();
         match command {
             Some(Command::Call(call)) => {
                 let answer = self.theatre.call(call);
-                self.write_answer(answer)
+                self.write_answer(answer, out)
             }
-            Some(Command::Tick(many)) => self.ticks(many),
-            Some(Command::Had) => self.write_had(),
-            Some(Command::Any(seed, many)) => self.any(seed, many),
-            None => self.write_bad_line(),
+            Some(Command::Tick(many)) => self.ticks(many, out),
+            Some(Command::Had) => self.write_had(out),
+            Some(Command::Any(seed, many)) => {
+                self.any(seed, many);
+                Ok(())
+            }
+            None => self.write_bad_line(out),
         }
     }
 
-    fn ticks(&mut self, many: u32) -> Result<(), Stopped> {
+    fn ticks<S: Sink>(&mut self, many: u32, out: &mut S) -> Result<(), Stopped> {
         for _k in 0..many {
             let (whose, runs) = self.theatre.tick();
-            self.write_tick(whose, runs)?;
+            self.write_tick(whose, runs, out)?;
         }
         Ok(())
     }
 
     // Nothing is written for these.
-    fn any(&mut self, seed: u32, many: u32) -> Result<(), Stopped> {
+    fn any(&mut self, seed: u32, many: u32) {
         let mut generator = Generator::new(seed);
         for _k in 0..many {
             match generator.next_step() {
@@ -81,10 +84,9 @@ impl<S: Sink + Drop> Player<S> {
                 Next::Over => {}
             }
         }
-        Ok(())
     }
 
-    fn write_answer(&mut self, answer: Answer) -> Result<(), Stopped> {
+    fn write_answer<S: Sink>(&mut self, answer: Answer, out: &mut S) -> Result<(), Stopped> {
         match answer {
             Answer::Done => self.page.text(b"done"),
             Answer::Id(i) => {
@@ -96,10 +98,10 @@ impl<S: Sink + Drop> Player<S> {
                 self.page.number(u64::from(number));
             }
         }
-        self.page.end_line()
+        self.page.end_line(out)
     }
 
-    fn write_tick(&mut self, whose: Option<u32>, runs: u32) -> Result<(), Stopped> {
+    fn write_tick<S: Sink>(&mut self, whose: Option<u32>, runs: u32, out: &mut S) -> Result<(), Stopped> {
         match whose {
             Some(i) => {
                 self.page.number(u64::from(i));
@@ -110,10 +112,10 @@ impl<S: Sink + Drop> Player<S> {
             }
             None => self.page.text(b"-"),
         }
-        self.page.end_line()
+        self.page.end_line(out)
     }
 
-    fn write_had(&mut self) -> Result<(), Stopped> {
+    fn write_had<S: Sink>(&mut self, out: &mut S) -> Result<(), Stopped> {
         self.page.text(b"had");
         for i in 0..64u32 {
             if let Some(n) = self.theatre.had_by(i) {
@@ -121,13 +123,13 @@ impl<S: Sink + Drop> Player<S> {
                 self.page.number(n);
             }
         }
-        self.page.end_line()
+        self.page.end_line(out)
     }
 
-    fn write_bad_line(&mut self) -> Result<(), Stopped> {
+    fn write_bad_line<S: Sink>(&mut self, out: &mut S) -> Result<(), Stopped> {
         self.page.text(b"line ");
         self.page.number(self.lines);
         self.page.text(b"?");
-        self.page.end_line()
+        self.page.end_line(out)
     }
 }

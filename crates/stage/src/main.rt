@@ -27,15 +27,16 @@ fn main(rt: LibcRuntime) -> Result<(), AnyError> {
 fn play(rt: &LibcRuntime) -> Result<(), AnyError> {
     let mut input = rt.stdin();
     let mut buffer = [0u8; 65536];
-    let mut player = Player::new(Output { rt });
+    let mut output = Output { rt };
+    let mut player = Player::new();
     for _k in 0..u64::MAX {
         let n = input.read(&mut buffer)?;
         if n == 0 {
             break;
         }
-        written(player.feed(&buffer[0..n]))?;
+        written(player.feed(&buffer[0..n], &mut output))?;
     }
-    written(player.finish())
+    written(player.finish(&mut output))
 }
 
 fn written(outcome: Result<(), Stopped>) -> Result<(), AnyError> {

@@ -3,4 +3,4 @@ use Prim.Native.Nat.{_≤_}
 use Rattle.script.proofs.page.Page.number.Given as given
 
 abbrev pub Inv-loop-k : given.InvT-loop-k
-Inv-loop-k g l = l .first ≤ 19
+Inv-loop-k l = l .first ≤ 19
