@@ -16,32 +16,38 @@ impl Generator {
 
     // The next call or tick.
     pub fn next_step(&mut self) -> Next {
-        let drawn = self.below(32);
-        if drawn < 16 {
+        let drawn = self.below(64);
+        if drawn < 32 {
             return Next::Tick;
         }
         Next::Calls(self.call(drawn))
     }
 
     fn call(&mut self, drawn: u32) -> Call {
-        if drawn < 18 {
+        if drawn < 34 {
             return Call::Make(self.kind());
         }
-        let i = self.pick(16, 80);
-        if drawn < 20 {
-            return Call::End(i);
+        if drawn < 40 {
+            return Call::End(self.below(72));
         }
-        if drawn < 24 {
-            return Call::Wake(i);
+        if drawn < 47 {
+            return Call::Wake(self.pick(16, 80));
         }
-        if drawn < 25 {
-            return Call::Sleep(i);
+        if drawn < 49 {
+            return Call::Sleep(self.pick(16, 80));
         }
-        let m = self.pick(4, 72);
-        if drawn < 28 {
+        let i = self.below(8);
+        let m = self.lock();
+        if drawn < 52 {
             return Call::Lock(i, m);
         }
         Call::Unlock(i, m)
+    }
+
+    // One of four locks, or none that there is.
+    fn lock(&mut self) -> u32 {
+        let drawn = self.below(5);
+        if drawn == 4 { 64 } else { drawn }
     }
 
     fn kind(&mut self) -> Kind {
