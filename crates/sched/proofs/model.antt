@@ -1,1 +1,4 @@
 pub mod CallWays
+pub mod Stands
+pub mod Runner
+pub mod Rings
