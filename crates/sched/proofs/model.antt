@@ -1,4 +1,6 @@
 pub mod CallWays
+pub mod Kinds
 pub mod Stands
 pub mod Runner
 pub mod Rings
+pub mod Ticks

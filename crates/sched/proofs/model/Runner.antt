@@ -54,6 +54,13 @@ module _ (h : House) where
       let at : h .waits i - 1 ≡ m = omega arith in
       cond-false (eqb (h .waits i) 0) i (runner n h (h .owner (h .waits i - 1) - 1)) (ne-eqb (h .waits i) 0 (omega arith)) ∙ ap (λ k. runner n h (h .owner k - 1)) at
 
+  -- who runs for whom is a matter of waits and owners alone
+  pub runner-same : (g : House) → ((i : ℕ) → g .waits i ≡ h .waits i) → ((m : ℕ) → g .owner m ≡ h .owner m) → (n i : ℕ) → runner n g i ≡ runner n h i
+  unfolding runner
+  runner-same g w o zero i = refl
+  runner-same g w o (suc n) i =
+      rw (w i, o (h .waits i - 1)) (ap (cond (eqb (h .waits i) 0) i) (runner-same g w o n (h .owner (h .waits i - 1) - 1)))
+
   -- once at the end, no step leads on
   pub runner-more : (n i : ℕ) → h .waits (runner n h i) ≡ 0 → runner (suc n) h i ≡ runner n h i
   unfolding runner
