@@ -1,5 +1,5 @@
 -- The processor rests only if nobody is owed the tick.
-use Prim.Native.Nat.{ℕ, _<_, _≤_}
+use Prim.Native.Nat.{ℕ, _≤_}
 use lib.Dec.{T}
 use Rattle.std.specs.declared.option.Option.the-variants.{None}
 use Rattle.sched.specs.House.{House, isReserved, quotaOf, gotOf, wants, mayRun, opened}
