@@ -1,6 +1,6 @@
 -- Of a task that wants a tick and isn't due, is in no rank and isn't fair, only one thing can be true: it has had its quota.
 use mathlib.Core.Path.{_≡_, refl, sym, ap, _∙_}
-use mathlib.Core.Bool.{true, _&&_, false≢true, true≢false}
+use mathlib.Core.Bool.{true, _&&_, true≢false}
 use mathlib.Core.Logic.{⊎-elim}
 use Prim.Native.Nat.{ℕ, _<_, _≤_}
 use native.Mathlib.Omega.{arith}
@@ -8,18 +8,13 @@ use lib.Dec.{eqb, ltb}
 use Rattle.std.proofs.shelf.Tests.{and-from, and-parts, cases-bool, eq-eqb, lt-ltb, ltb-true, ltb-false, leb-true}
 use Rattle.sched.specs.declared.Kind.{Kind}
 use Rattle.sched.specs.declared.Kind.the-variants.{Reserved, Fixed, Fair}
-use Rattle.sched.specs.House.{House, Place, Nobody, A, Kept, good, isTask, isReserved, isFixed, rankOf, weightOf, quotaOf, gotOf, some', wants, due, rankWants, fairWants, mayRest, opened}
+use Rattle.sched.specs.House.{House, A, good, isTask, isReserved, isFixed, rankOf, weightOf, quotaOf, gotOf, some', wants, due, rankWants, fairWants, mayRest, opened}
 use Rattle.sched.proofs.Tests.{T-true, true-T}
 use Rattle.sched.proofs.Bounded.{some-from, none-at}
+use Rattle.sched.proofs.model.Places.{kind-of}
 use Rattle.sched.proofs.model.Kinds.{comes-good}
 use Rattle.sched.proofs.model.Ticks.{wants-opened, may-rest, rests}
 use Rattle.promises.specs.Idle.{IdleOnlyIfUnwanted}
-
-kind-of : (p : Place) → isTask p ≡ true → (k : Kind) × (p ≡ A k)
-unfolding isTask
-kind-of Nobody t = absurd (false≢true t)
-kind-of (A k) t = (k, refl)
-kind-of (Kept q p) t = absurd (false≢true t)
 
 module _ (g : House) (rest : mayRest g ≡ true) (i : ℕ) (l : i < 64) (want : wants g i ≡ true) where
   abbrev HadItsQuota : Type 0

@@ -1,17 +1,18 @@
 -- Who runs is found along waits and owners, so it's one to whom the tick is lent; what a tick moves, it moves for whose it is.
 use mathlib.Core.Path.{_≡_, refl, sym, _∙_}
 use mathlib.Core.Bool.{Bool, true, false, cond, _&&_, true≢false, false≢true}
+use mathlib.Core.List.{[], _∷_, _++_}
 use mathlib.Core.Logic.{_⊎_, inl, inr}
-use Prim.Native.Nat.{ℕ, zero, suc, _+_, _-_, _*_}
+use Prim.Native.Nat.{ℕ, zero, suc, _+_, _-_, _*_, _<_}
 use native.Mathlib.Omega.{arith}
 use lib.Dec.{eqb, ltb}
 use Rattle.std.proofs.shelf.Tests.{and-from, and-left, eq-eqb, ne-eqb, eqb-true, lt-ltb}
-use Rattle.sched.specs.House.{House, Place, Window, Nobody, A, Kept, Shut, Open, isTask, isFixed, weightOf, gotOf, runner, freed, passed, goesOn, wraps, ticked, opened, numberOf}
+use Rattle.sched.specs.House.{House, Place, Window, Nobody, A, Kept, Shut, Open, isTask, isFixed, weightOf, gotOf, without, runner, freed, passed, goesOn, wraps, ticked, opened, numberOf}
 use Rattle.sched.proofs.Tests.{T-true, true-T, and-three}
 use Rattle.sched.proofs.model.Runner.{Standing, runner-self, runner-next}
 use Rattle.sched.proofs.model.Rings.{comes-stands, runner-is-free}
 use Rattle.sched.proofs.model.Ticks.{takes-wants, wants-opened, may-run}
-use Rattle.promises.specs.Lending.{LendsTo, itself, through, CountsFor, CountsNot, Lends}
+use Rattle.promises.specs.Lending.{LendsTo, itself, through, parts, CountsFor, CountsNot, Lends}
 
 lends-runner : (h : House) → Standing h → (n i : ℕ) → LendsTo h i (runner n h i)
 unfolding runner
@@ -50,24 +51,41 @@ part-stays true full f r w e = absurd (true≢false e)
 part-stays false full f r w e = refl
 
 module _ (g : House) (i : ℕ) where
+  here : suc i - 1 ≡ i
+  here = omega arith
+
+  somebody : eqb (suc i) 0 ≡ false
+  somebody = ne-eqb (suc i) 0 (omega arith)
+
+  goes-last : isFixed (g .place i) ≡ true → ticked g (suc i) .turn ≡ without i (g .turn) ++ (i ∷ [])
+  goes-last f = rw (somebody, here, f) refl
+
+  turn-stays : isFixed (g .place i) ≡ false → ticked g (suc i) .turn ≡ g .turn
+  turn-stays f = rw (somebody, here, f) refl
+
+  goes-on : 0 < weightOf (g .place i) → parts (ticked g (suc i)) i ≡ parts g i + 1
+  goes-on w =
+      let goes = and-from (eqb (suc i) (suc i)) (ltb 0 (weightOf (g .place i))) (eq-eqb (suc i) (suc i) refl) (lt-ltb 0 (weightOf (g .place i)) w) in
+      rw (freed-weight (passed (eqb (suc i) (suc i)) (g .window i)) (g .place i))
+      (part-on (goesOn g (suc i) i) (wraps g i) (g .far i) (g .rest i) (weightOf (g .place i)) goes (eqb-true (g .rest i + 1) (weightOf (g .place i))))
+
+  stays : (k : ℕ) → eqb (suc i) (suc k) ≡ false → parts (ticked g (suc i)) k ≡ parts g k
+  stays k other =
+      rw (freed-weight (passed (eqb (suc i) (suc k)) (g .window k)) (g .place k))
+      (part-stays (goesOn g (suc i) k) (wraps g k) (g .far k) (g .rest k) (weightOf (g .place k)) (and-left (eqb (suc i) (suc k)) (ltb 0 (weightOf (g .place k))) other))
+
   counts-for : CountsFor i g (ticked g (suc i))
   counts-for =
       record {
         reserved = λ _. rw (eq-eqb (suc i) (suc i) refl) (passed-got true (g .window i));
-        fixed = λ f. let at : suc i - 1 ≡ i = omega arith in let some : eqb (suc i) 0 ≡ false = ne-eqb (suc i) 0 (omega arith) in let is = T-true (isFixed (g .place i)) f in rw (some, at, is) refl;
-        fair = λ w. rw (freed-weight (passed (eqb (suc i) (suc i)) (g .window i)) (g .place i)) (part-on (goesOn g (suc i) i) (wraps g i) (g .far i) (g .rest i) (weightOf (g .place i)) (and-from _ _ (eq-eqb (suc i) (suc i) refl) (lt-ltb 0 (weightOf (g .place i)) w)) (eqb-true (g .rest i + 1) (weightOf (g .place i))));
+        fixed = λ f. goes-last (T-true (isFixed (g .place i)) f);
+        fair = goes-on;
       }
 
   counts-not : (k : ℕ) → (k ≡ i → ⊥) → CountsNot k g (ticked g (suc i))
   counts-not k n =
       let other : eqb (suc i) (suc k) ≡ false = ne-eqb (suc i) (suc k) (omega arith) in
-      record {
-        windows = rw other (passed-got false (g .window k));
-        position = rw (freed-weight (passed (eqb (suc i) (suc k)) (g .window k)) (g .place k)) (part-stays (goesOn g (suc i) k) (wraps g k) (g .far k) (g .rest k) (weightOf (g .place k)) (and-left (eqb (suc i) (suc k)) (ltb 0 (weightOf (g .place k))) other));
-      }
-
-  turn-stays : isFixed (g .place i) ≡ false → ticked g (suc i) .turn ≡ g .turn
-  turn-stays f = let at : suc i - 1 ≡ i = omega arith in let some : eqb (suc i) 0 ≡ false = ne-eqb (suc i) 0 (omega arith) in rw (some, at, f) refl
+      record { windows = rw other (passed-got false (g .window k)); position = stays k other }
 
 pub lends : Lends
 unfolding numberOf

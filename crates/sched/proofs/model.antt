@@ -1,6 +1,7 @@
 pub mod CallWays
 pub mod Kinds
-pub mod Stands
-pub mod Runner
+pub mod Places
 pub mod Rings
+pub mod Runner
+pub mod Stands
 pub mod Ticks
