@@ -1,3 +1,4 @@
+-- The theorem stands in Admission.
 use Rattle.promises.proofs.Admission.{admits}
 use Rattle.promises.proofs.admits.Needs as need
 

@@ -1,3 +1,4 @@
+-- The theorem stands in Lending.
 use Rattle.promises.proofs.Lending.{lends}
 use Rattle.promises.proofs.lends.Needs as need
 
