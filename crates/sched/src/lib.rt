@@ -4,6 +4,7 @@ ghost use mathlib.Core.Bool.{true, false};
 ghost use Prim.Native.Nat.{ℕ, _<_, _≤_, _+_};
 ghost use lib.Dec.{T};
 ghost use Rattle.sched.specs.House.{House, empty, calls, mayRun, after, goesOn'};
+ghost use Rattle.sched.specs.Promise.{NoRings, RowsStand};
 
 mod calls;
 mod class;
@@ -132,4 +133,17 @@ pub fn scheduler_is_small() -> bool
     ensures { λ r. ⌜ T r ⌝ }
 {
     std::mem::size_of::<Scheduler>() <= 65536
+}
+
+// What is promised beside, each a theorem that a contract names.
+pub fn no_rings() -> u8
+    ensures { λ _. ⌜ NoRings ⌝ }
+{
+    0
+}
+
+pub fn rows_stand() -> u8
+    ensures { λ _. ⌜ RowsStand ⌝ }
+{
+    0
 }

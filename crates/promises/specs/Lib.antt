@@ -1,0 +1,4 @@
+pub mod Admission
+pub mod Idle
+pub mod Lending
+pub mod Scenes

@@ -1,0 +1,4 @@
+pub mod Tests
+pub mod Puts
+pub mod Bounded
+pub mod model
