@@ -1,0 +1,6 @@
+pub mod Lists
+pub mod Writes
+pub mod Chains
+pub mod Standing
+pub mod Removal
+pub mod Arrival
