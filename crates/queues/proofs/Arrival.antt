@@ -51,16 +51,18 @@ module _ (s : Queues) (f : ℕ → List ℕ) (q i : ℕ) (h : Holds s f) (free :
   keeps : (r c d : ℕ) → (c ≡ 64) ⊎ Member c (f r) → (d ≡ 64) ⊎ Member d (f r) → Apart r c q (before s q 64) → Apart r d q 64 → Linked s r c d → Linked come r c d
   unfolding come
   keeps r c d mc md pc pd l =
-      place-leaves shut i q r c d
-      ( second-join .after-kept r c (from-me r c mc) ∙ (first-join .after-kept r c pc ∙ l .0),
-        second-join .before-kept r d pd ∙ (first-join .before-kept r d (from-me r d md) ∙ l .1) )
+      place-leaves shut i q r c d (
+        second-join .after-kept r c (from-me r c mc) ∙ (first-join .after-kept r c pc ∙ l .0),
+        second-join .before-kept r d pd ∙ (first-join .before-kept r d (from-me r d md) ∙ l .1),
+      )
 
   last-linked : Linked come q (before s q 64) i
   unfolding come
   last-linked =
-      place-leaves shut i q q (before s q 64) i
-      ( second-join .after-kept q (before s q 64) (from-me q (before s q 64) last-or-none) ∙ first-join .there .0,
-        second-join .before-kept q i (λ l e. omega arith, λ l k e. omega arith) ∙ first-join .there .1 )
+      place-leaves shut i q q (before s q 64) i (
+        second-join .after-kept q (before s q 64) (from-me q (before s q 64) last-or-none) ∙ first-join .there .0,
+        second-join .before-kept q i (λ l e. omega arith, λ l k e. omega arith) ∙ first-join .there .1,
+      )
 
   closed : Linked come q i 64
   unfolding come
@@ -105,8 +107,8 @@ module _ (s : Queues) (f : ℕ → List ℕ) (q i : ℕ) (h : Holds s f) (free :
   unfolding with-it
   each P own other r =
       elim (cases-eq r q) [
-        inl e ↦ rw (eq-eqb r q e) (subst (λ k. P k (f q ++ (i ∷ []))) (sym e) own)
-      | inr n ↦ rw (ne-eqb r q n) (other r n)
+        | inl e ↦ rw (eq-eqb r q e) (subst (λ k. P k (f q ++ (i ∷ []))) (sym e) own)
+        | inr n ↦ rw (ne-eqb r q n) (other r n)
       ]
 
   -- who stands there now stood there, or is i
@@ -123,8 +125,8 @@ module _ (s : Queues) (f : ℕ → List ℕ) (q i : ℕ) (h : Holds s f) (free :
   come-found : (j : ℕ) → j < 64 → placeOf come j < 64 → Member j (with-it (placeOf come j))
   come-found j b p =
       elim (cases-eq j i) [
-        inl e ↦ subst (λ k. Member k (with-it (placeOf come k))) (sym e) (subst (λ k. Member i (with-it k)) (sym here) mine)
-      | inr n ↦ subst (λ k. Member j (with-it k)) (sym (come-place j n)) (stands (placeOf s j) j (h .found j b (subst (λ k. k < 64) (come-place j n) p)))
+        | inl e ↦ subst (λ k. Member k (with-it (placeOf come k))) (sym e) (subst (λ k. Member i (with-it k)) (sym here) mine)
+        | inr n ↦ subst (λ k. Member j (with-it k)) (sym (come-place j n)) (stands (placeOf s j) j (h .found j b (subst (λ k. k < 64) (come-place j n) p)))
       ]
     where
       mine : Member i (with-it q)
@@ -146,8 +148,8 @@ module _ (s : Queues) (f : ℕ → List ℕ) (q i : ℕ) (h : Holds s f) (free :
       once : (j : ℕ) → times j (f q ++ (i ∷ [])) ≤ 1
       once j =
           elim (cases-eq j i) [
-            inl e ↦ rw (times-push i j (f q)) (rw (eq-eqb j i e) (omega (arith, subst (λ k. times k (f q) ≡ 0) (sym e) (times-none i (f q) (free q)))))
-          | inr n ↦ rw (times-push i j (f q)) (rw (ne-eqb j i n) (omega (arith, h .once q j)))
+            | inl e ↦ rw (times-push i j (f q)) (rw (eq-eqb j i e) (omega (arith, subst (λ k. times k (f q) ≡ 0) (sym e) (times-none i (f q) (free q)))))
+            | inr n ↦ rw (times-push i j (f q)) (rw (ne-eqb j i n) (omega (arith, h .once q j)))
           ]
 
   pub appended-holds : Holds (appended q i s) (put q (f q ++ (i ∷ [])) f)

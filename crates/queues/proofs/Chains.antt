@@ -29,9 +29,10 @@ module _ (s : Queues) (q : ℕ) where
   -- whoever is in a ring is linked to both neighbours
   pub ring-around : (i a : ℕ) (xs : List ℕ) → Ring s q a xs → Member i xs → Linked s q (before s q i) i × Linked s q i (after s q i)
   ring-around i a [] ring m = absurd m
-  ring-around i a (x ∷ xs) ring (inl e) =
-      ( (ap (λ k. after s q k) (ap (λ k. before s q k) e ∙ ring .0 .1) ∙ (ring .0 .0 ∙ sym e), refl),
-        subst (λ k. Linked s q k (after s q k)) (sym e) (ring-starts x xs (ring .1)) )
+  ring-around i a (x ∷ xs) ring (inl e) = (
+    (ap (λ k. after s q k) (ap (λ k. before s q k) e ∙ ring .0 .1) ∙ (ring .0 .0 ∙ sym e), refl),
+    subst (λ k. Linked s q k (after s q k)) (sym e) (ring-starts x xs (ring .1)),
+  )
   ring-around i a (x ∷ xs) ring (inr m) = ring-around i x xs (ring .1) m
 
   -- who comes after i is the first of those behind it, or 64
@@ -53,9 +54,10 @@ module _ (s t : Queues) (q i : ℕ) (far : 64 ≡ i → ⊥) (closed : Linked t 
   -- the ring behind i, now behind the one before it
   passed : (xs : List ℕ) → (Member i xs → ⊥) → Ring s q i xs → Ring t q (before s q i) xs
   passed [] n ring = subst (λ k. Linked t q (before s q i) k) (ring .0) closed
-  passed (x ∷ xs) n ring =
-      ( subst (λ k. Linked t q (before s q i) k) (ring .0 .0) closed,
-        ring-kept s t q x xs (λ c d m k l. keeps c d (notFirst c m) (notNext d k) l) (ring .1) )
+  passed (x ∷ xs) n ring = (
+    subst (λ k. Linked t q (before s q i) k) (ring .0 .0) closed,
+    ring-kept s t q x xs (λ c d m k l. keeps c d (notFirst c m) (notNext d k) l) (ring .1),
+  )
     where
       notFirst : (c : ℕ) → (c ≡ x) ⊎ Member c xs → c ≡ i → ⊥
       notFirst c (inl e) w = n (inl (sym w ∙ e))
@@ -69,8 +71,8 @@ module _ (s t : Queues) (q i : ℕ) (far : 64 ≡ i → ⊥) (closed : Linked t 
   ring-without a [] n m h ring = absurd m
   ring-without a (x ∷ xs) n m h ring =
       elim (cases-eq i x) [
-        inl e ↦ rw (eq-eqb i x e) (here e)
-      | inr d ↦ rw (ne-eqb i x d) (keeps a x n (λ w. d (sym w)) (ring .0), ring-without x xs (λ w. d (sym w)) (elim m [ inl e ↦ absurd (d e) | inr k ↦ k ]) (times-rest i x xs h) (ring .1))
+        | inl e ↦ rw (eq-eqb i x e) (here e)
+        | inr d ↦ rw (ne-eqb i x d) (keeps a x n (λ w. d (sym w)) (ring .0), ring-without x xs (λ w. d (sym w)) (elim m [ inl e ↦ absurd (d e) | inr k ↦ k ]) (times-rest i x xs h) (ring .1))
       ]
     where
       alone : i ≡ x → Member i xs → ⊥

@@ -4,3 +4,5 @@ pub mod Chains
 pub mod Standing
 pub mod Removal
 pub mod Arrival
+pub mod Told
+pub mod Changes

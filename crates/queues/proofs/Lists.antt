@@ -37,16 +37,16 @@ pub member-without : (i j : ℕ) (xs : List ℕ) → Member j (without i xs) →
 member-without i j [] m = absurd m
 member-without i j (x ∷ xs) m =
     elim (cases-eq i x) [
-      inl e ↦ inr (member-without i j xs (rw (eq-eqb i x e) at m))
-    | inr n ↦ elim (rw (ne-eqb i x n) at m) [ inl e ↦ inl e | inr k ↦ inr (member-without i j xs k) ]
+      | inl e ↦ inr (member-without i j xs (rw (eq-eqb i x e) at m))
+      | inr n ↦ elim (rw (ne-eqb i x n) at m) [ inl e ↦ inl e | inr k ↦ inr (member-without i j xs k) ]
     ]
 
 pub not-without : (i : ℕ) (xs : List ℕ) → Member i (without i xs) → ⊥
 not-without i [] m = absurd m
 not-without i (x ∷ xs) m =
     elim (cases-eq i x) [
-      inl e ↦ not-without i xs (rw (eq-eqb i x e) at m)
-    | inr n ↦ elim (rw (ne-eqb i x n) at m) [ inl e ↦ n e | inr k ↦ not-without i xs k ]
+      | inl e ↦ not-without i xs (rw (eq-eqb i x e) at m)
+      | inr n ↦ elim (rw (ne-eqb i x n) at m) [ inl e ↦ n e | inr k ↦ not-without i xs k ]
     ]
 
 pub without-member : (i j : ℕ) (xs : List ℕ) → (j ≡ i → ⊥) → Member j xs → Member j (without i xs)

@@ -34,9 +34,10 @@ module _ (s : Queues) (f : ℕ → List ℕ) (q i : ℕ) (h : Holds s f) (m : Me
   keeps : (r c d : ℕ) → (c ≡ i → ⊥) → (d ≡ i → ⊥) → Linked s r c d → Linked left r c d
   unfolding left
   keeps r c d nc nd l =
-      place-leaves shut i 64 r c d
-      ( shuts .after-kept r c (apart-after s r c q (before s q i) (λ e. nd (sym (l .0) ∙ (e ∙ neighbours .0 .0)))) ∙ l .0,
-        shuts .before-kept r d (apart-before s r d q (after s q i) (λ e. nc (sym (l .1) ∙ (e ∙ neighbours .1 .1)))) ∙ l .1 )
+      place-leaves shut i 64 r c d (
+        shuts .after-kept r c (apart-after s r c q (before s q i) (λ e. nd (sym (l .0) ∙ (e ∙ neighbours .0 .0)))) ∙ l .0,
+        shuts .before-kept r d (apart-before s r d q (after s q i) (λ e. nc (sym (l .1) ∙ (e ∙ neighbours .1 .1)))) ∙ l .1,
+      )
 
   closed : Linked left q (before s q i) (after s q i)
   unfolding left
@@ -58,8 +59,8 @@ module _ (s : Queues) (f : ℕ → List ℕ) (q i : ℕ) (h : Holds s f) (m : Me
   left-ring : (r : ℕ) → r < 64 → Ring left r 64 (without i (f r))
   left-ring r b =
       elim (cases-eq r q) [
-        inl e ↦ subst (λ k. Ring left k 64 (without i (f k))) (sym e) (ring-without s left q i not-end closed (keeps q) 64 (f q) not-end m (h .once q i) (h .ring q (h .queue q i m)))
-      | inr n ↦ subst (λ l. Ring left r 64 l) (sym (without-none i (f r) (others r n))) (other-ring r b n)
+        | inl e ↦ subst (λ k. Ring left k 64 (without i (f k))) (sym e) (ring-without s left q i not-end closed (keeps q) 64 (f q) not-end m (h .once q i) (h .ring q (h .queue q i m)))
+        | inr n ↦ subst (λ l. Ring left r 64 l) (sym (without-none i (f r) (others r n))) (other-ring r b n)
       ]
 
   left-place : (j : ℕ) → (j ≡ i → ⊥) → placeOf left j ≡ placeOf s j
@@ -73,8 +74,8 @@ module _ (s : Queues) (f : ℕ → List ℕ) (q i : ℕ) (h : Holds s f) (m : Me
   left-found : (j : ℕ) → j < 64 → placeOf left j < 64 → Member j (without i (f (placeOf left j)))
   left-found j b p =
       elim (cases-eq j i) [
-        inl e ↦ absurd (gone e)
-      | inr n ↦ without-member i j _ n (subst (λ k. Member j (f k)) (sym (left-place j n)) (h .found j b (subst (λ k. k < 64) (left-place j n) p)))
+        | inl e ↦ absurd (gone e)
+        | inr n ↦ without-member i j _ n (subst (λ k. Member j (f k)) (sym (left-place j n)) (h .found j b (subst (λ k. k < 64) (left-place j n) p)))
       ]
     where
       gone : j ≡ i → ⊥

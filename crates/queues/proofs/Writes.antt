@@ -18,11 +18,11 @@ use Rattle.queues.specs.Rings.{linkOf, endsOf, placeOf, after, before, Linked,
 field-kept : {X : Type 0} {Y : Type 0} (g : X → Y) (xs : List X) (i j : ℕ) (x d : X) → g x ≡ g (getD xs i d) → g (getD (set xs i x) j d) ≡ g (getD xs j d)
 field-kept g xs i j x d e =
     elim (cases-lt i (length xs)) [
-      inl l ↦ elim (cases-eq j i) [
-        inl w ↦ ap (λ k. g (getD (set xs i x) k d)) w ∙ (ap g (getD-set-same xs i x d l) ∙ (e ∙ ap (λ k. g (getD xs k d)) (sym w)))
-      | inr n ↦ ap g (getD-set-other xs i j x d n)
+      | inl l ↦ elim (cases-eq j i) [
+        | inl w ↦ ap (λ k. g (getD (set xs i x) k d)) w ∙ (ap g (getD-set-same xs i x d l) ∙ (e ∙ ap (λ k. g (getD xs k d)) (sym w)))
+        | inr n ↦ ap g (getD-set-other xs i j x d n)
       ]
-    | inr p ↦ ap (λ l. g (getD l j d)) (set-past xs i x p)
+      | inr p ↦ ap (λ l. g (getD l j d)) (set-past xs i x p)
     ]
 
 -- as many members and queues as there are
@@ -38,32 +38,34 @@ abbrev pub Apart : (r c q a : ℕ) → Type 0
 Apart r c q a = (c < 64 → c ≡ a → ⊥) × (64 ≤ c → 64 ≤ a → r ≡ q → ⊥)
 
 module _ (s : Queues) where
-  after-of-member : (q a : ℕ) → a < 64 → after s q a ≡ linkOf s a .next
+  pub after-of-member : (q a : ℕ) → a < 64 → after s q a ≡ linkOf s a .next
   unfolding after
   after-of-member q a h = rw (lt-ltb a 64 h) refl
 
-  after-of-end : (q a : ℕ) → 64 ≤ a → after s q a ≡ endsOf s q .head
+  pub after-of-end : (q a : ℕ) → 64 ≤ a → after s q a ≡ endsOf s q .head
   unfolding after
   after-of-end q a h = rw (le-ltb a 64 h) refl
 
-  before-of-member : (q a : ℕ) → a < 64 → before s q a ≡ linkOf s a .prev
+  pub before-of-member : (q a : ℕ) → a < 64 → before s q a ≡ linkOf s a .prev
   unfolding before
   before-of-member q a h = rw (lt-ltb a 64 h) refl
 
-  before-of-end : (q a : ℕ) → 64 ≤ a → before s q a ≡ endsOf s q .tail
+  pub before-of-end : (q a : ℕ) → 64 ≤ a → before s q a ≡ endsOf s q .tail
   unfolding before
   before-of-end q a h = rw (le-ltb a 64 h) refl
 
   -- two spots that are followed by different ones are not one spot
   pub apart-after : (r c q a : ℕ) → (after s r c ≡ after s q a → ⊥) → Apart r c q a
-  apart-after r c q a n =
-      ( λ l e. n (after-of-member r c l ∙ (sym (after-of-member q c l) ∙ ap (λ k. after s q k) e)),
-        λ l m e. n (after-of-end r c l ∙ (ap (λ k. endsOf s k .head) e ∙ sym (after-of-end q a m))) )
+  apart-after r c q a n = (
+    λ l e. n (after-of-member r c l ∙ (sym (after-of-member q c l) ∙ ap (λ k. after s q k) e)),
+    λ l m e. n (after-of-end r c l ∙ (ap (λ k. endsOf s k .head) e ∙ sym (after-of-end q a m))),
+  )
 
   pub apart-before : (r c q a : ℕ) → (before s r c ≡ before s q a → ⊥) → Apart r c q a
-  apart-before r c q a n =
-      ( λ l e. n (before-of-member r c l ∙ (sym (before-of-member q c l) ∙ ap (λ k. before s q k) e)),
-        λ l m e. n (before-of-end r c l ∙ (ap (λ k. endsOf s k .tail) e ∙ sym (before-of-end q a m))) )
+  apart-before r c q a n = (
+    λ l e. n (before-of-member r c l ∙ (sym (before-of-member q c l) ∙ ap (λ k. before s q k) e)),
+    λ l m e. n (before-of-end r c l ∙ (ap (λ k. endsOf s k .tail) e ∙ sym (before-of-end q a m))),
+  )
 
 -- a write of a member's link or of a queue's ends, of which one field changes
 module _ (s : Queues) (r c : ℕ) where
@@ -87,11 +89,11 @@ module _ (s : Queues) (r c : ℕ) where
   ends-before q l e = rw (field-kept (λ (x : Ends). x .tail) (s .ends) q r l (record { head = 0; tail = 0 }) e) refl
 
 module _ (s : Queues) (q a b : ℕ) where
-  after-member : a < 64 → setAfter q a b s ≡ setLink a (record { next = b; prev = linkOf s a .prev; at = linkOf s a .at }) s
+  pub after-member : a < 64 → setAfter q a b s ≡ setLink a (record { next = b; prev = linkOf s a .prev; at = linkOf s a .at }) s
   unfolding setAfter
   after-member h = rw (lt-ltb a 64 h) refl
 
-  after-end : 64 ≤ a → setAfter q a b s ≡ setEnds q (record { head = b; tail = endsOf s q .tail }) s
+  pub after-end : 64 ≤ a → setAfter q a b s ≡ setEnds q (record { head = b; tail = endsOf s q .tail }) s
   unfolding setAfter
   after-end h = rw (le-ltb a 64 h) refl
 
@@ -99,20 +101,20 @@ module _ (s : Queues) (q a b : ℕ) where
   unfolding Sized
   after-here z h =
       elim (cases-lt a 64) [
-        inl l ↦ rw (after-member l) (after-of-member _ q a l ∙ ap (λ (x : Link). x .next) (getD-set-same (s .links) a _ _ (omega (arith, z .0))))
-      | inr m ↦ rw (after-end m) (after-of-end _ q a m ∙ ap (λ (x : Ends). x .head) (getD-set-same (s .ends) q _ _ (omega (arith, z .1))))
+        | inl l ↦ rw (after-member l) (after-of-member _ q a l ∙ ap (λ (x : Link). x .next) (getD-set-same (s .links) a _ _ (omega (arith, z .0))))
+        | inr m ↦ rw (after-end m) (after-of-end _ q a m ∙ ap (λ (x : Ends). x .head) (getD-set-same (s .ends) q _ _ (omega (arith, z .1))))
       ]
 
   after-else : (r c : ℕ) → Apart r c q a → after (setAfter q a b s) r c ≡ after s r c
   after-else r c p =
       elim (cases-lt a 64) [
-        inl l ↦ elim (cases-lt c 64) [
-          inl k ↦ rw (after-member l) (after-of-member _ r c k ∙ (ap (λ (x : Link). x .next) (getD-set-other (s .links) a c _ _ (p .0 k)) ∙ sym (after-of-member s r c k)))
-        | inr k ↦ rw (after-member l) (after-of-end _ r c k ∙ sym (after-of-end s r c k))
+        | inl l ↦ elim (cases-lt c 64) [
+          | inl k ↦ rw (after-member l) (after-of-member _ r c k ∙ (ap (λ (x : Link). x .next) (getD-set-other (s .links) a c _ _ (p .0 k)) ∙ sym (after-of-member s r c k)))
+          | inr k ↦ rw (after-member l) (after-of-end _ r c k ∙ sym (after-of-end s r c k))
         ]
-      | inr m ↦ elim (cases-lt c 64) [
-          inl k ↦ rw (after-end m) (after-of-member _ r c k ∙ sym (after-of-member s r c k))
-        | inr k ↦ rw (after-end m) (after-of-end _ r c k ∙ (ap (λ (x : Ends). x .head) (getD-set-other (s .ends) q r _ _ (p .1 k m)) ∙ sym (after-of-end s r c k)))
+        | inr m ↦ elim (cases-lt c 64) [
+          | inl k ↦ rw (after-end m) (after-of-member _ r c k ∙ sym (after-of-member s r c k))
+          | inr k ↦ rw (after-end m) (after-of-end _ r c k ∙ (ap (λ (x : Ends). x .head) (getD-set-other (s .ends) q r _ _ (p .1 k m)) ∙ sym (after-of-end s r c k)))
         ]
       ]
 
@@ -127,16 +129,16 @@ module _ (s : Queues) (q a b : ℕ) where
   unfolding Sized
   after-sized z =
       elim (cases-lt a 64) [
-        inl l ↦ rw (after-member l) (length-set (s .links) a _ ∙ z .0, z .1)
-      | inr m ↦ rw (after-end m) (z .0, length-set (s .ends) q _ ∙ z .1)
+        | inl l ↦ rw (after-member l) (length-set (s .links) a _ ∙ z .0, z .1)
+        | inr m ↦ rw (after-end m) (z .0, length-set (s .ends) q _ ∙ z .1)
       ]
 
 module _ (s : Queues) (q b a : ℕ) where
-  before-member : b < 64 → setBefore q b a s ≡ setLink b (record { next = linkOf s b .next; prev = a; at = linkOf s b .at }) s
+  pub before-member : b < 64 → setBefore q b a s ≡ setLink b (record { next = linkOf s b .next; prev = a; at = linkOf s b .at }) s
   unfolding setBefore
   before-member h = rw (lt-ltb b 64 h) refl
 
-  before-end : 64 ≤ b → setBefore q b a s ≡ setEnds q (record { head = endsOf s q .head; tail = a }) s
+  pub before-end : 64 ≤ b → setBefore q b a s ≡ setEnds q (record { head = endsOf s q .head; tail = a }) s
   unfolding setBefore
   before-end h = rw (le-ltb b 64 h) refl
 
@@ -144,20 +146,20 @@ module _ (s : Queues) (q b a : ℕ) where
   unfolding Sized
   before-here z h =
       elim (cases-lt b 64) [
-        inl l ↦ rw (before-member l) (before-of-member _ q b l ∙ ap (λ (x : Link). x .prev) (getD-set-same (s .links) b _ _ (omega (arith, z .0))))
-      | inr m ↦ rw (before-end m) (before-of-end _ q b m ∙ ap (λ (x : Ends). x .tail) (getD-set-same (s .ends) q _ _ (omega (arith, z .1))))
+        | inl l ↦ rw (before-member l) (before-of-member _ q b l ∙ ap (λ (x : Link). x .prev) (getD-set-same (s .links) b _ _ (omega (arith, z .0))))
+        | inr m ↦ rw (before-end m) (before-of-end _ q b m ∙ ap (λ (x : Ends). x .tail) (getD-set-same (s .ends) q _ _ (omega (arith, z .1))))
       ]
 
   before-else : (r c : ℕ) → Apart r c q b → before (setBefore q b a s) r c ≡ before s r c
   before-else r c p =
       elim (cases-lt b 64) [
-        inl l ↦ elim (cases-lt c 64) [
-          inl k ↦ rw (before-member l) (before-of-member _ r c k ∙ (ap (λ (x : Link). x .prev) (getD-set-other (s .links) b c _ _ (p .0 k)) ∙ sym (before-of-member s r c k)))
-        | inr k ↦ rw (before-member l) (before-of-end _ r c k ∙ sym (before-of-end s r c k))
+        | inl l ↦ elim (cases-lt c 64) [
+          | inl k ↦ rw (before-member l) (before-of-member _ r c k ∙ (ap (λ (x : Link). x .prev) (getD-set-other (s .links) b c _ _ (p .0 k)) ∙ sym (before-of-member s r c k)))
+          | inr k ↦ rw (before-member l) (before-of-end _ r c k ∙ sym (before-of-end s r c k))
         ]
-      | inr m ↦ elim (cases-lt c 64) [
-          inl k ↦ rw (before-end m) (before-of-member _ r c k ∙ sym (before-of-member s r c k))
-        | inr k ↦ rw (before-end m) (before-of-end _ r c k ∙ (ap (λ (x : Ends). x .tail) (getD-set-other (s .ends) q r _ _ (p .1 k m)) ∙ sym (before-of-end s r c k)))
+        | inr m ↦ elim (cases-lt c 64) [
+          | inl k ↦ rw (before-end m) (before-of-member _ r c k ∙ sym (before-of-member s r c k))
+          | inr k ↦ rw (before-end m) (before-of-end _ r c k ∙ (ap (λ (x : Ends). x .tail) (getD-set-other (s .ends) q r _ _ (p .1 k m)) ∙ sym (before-of-end s r c k)))
         ]
       ]
 
@@ -172,8 +174,8 @@ module _ (s : Queues) (q b a : ℕ) where
   unfolding Sized
   before-sized z =
       elim (cases-lt b 64) [
-        inl l ↦ rw (before-member l) (length-set (s .links) b _ ∙ z .0, z .1)
-      | inr m ↦ rw (before-end m) (z .0, length-set (s .ends) q _ ∙ z .1)
+        | inl l ↦ rw (before-member l) (length-set (s .links) b _ ∙ z .0, z .1)
+        | inr m ↦ rw (before-end m) (z .0, length-set (s .ends) q _ ∙ z .1)
       ]
 
 -- What a join of a and b in the ring of q makes of s.

@@ -7,8 +7,7 @@ ghost use Prim.Native.Nat.{ℕ};
 ghost use Rattle.std.specs.Options.{Cases as BySome};
 ghost use Rattle.queues.specs.Members.{Member, Free, rest, put};
 ghost use Rattle.queues.specs.Rings.{Holds, setAfter, setBefore, joined, appended, unlinked};
-ghost use Rattle.queues.specs.Outcomes.{Pushed, Removed, Moved};
-
+ghost use Rattle.queues.specs.Outcomes.{First, Pushed, Removed, Moved};
 use crate::queue_id::QueueId;
 use quantities::ids::TaskId;
 
@@ -56,14 +55,14 @@ impl Queues {
 
     // The first of the queue.
     pub fn front(&self, q: QueueId) -> Option<TaskId>
-        ensures { λ r. ⌜ ((f : ℕ → List ℕ) → Holds (now (self .entry)) f → BySome r (f (q .index) ≡ []) (λ t. f (q .index) ≡ (t .index ∷ rest (f (q .index))))) ⌝ }
+        ensures { λ r. ⌜ ((f : ℕ → List ℕ) → Holds (now (self .entry)) f → First (f (q .index)) r) ⌝ }
     {
         TaskId::new(self.ends[q.index()].head as u32)
     }
 
     // Who stands right behind i.
     pub fn next(&self, i: TaskId) -> Option<TaskId>
-        ensures behind { λ r. ⌜ ((f : ℕ → List ℕ) → Holds (now (self .entry)) f → (q : ℕ) (xs ys : List ℕ) → f q ≡ xs ++ (i .index ∷ ys) → BySome r (ys ≡ []) (λ t. ys ≡ (t .index ∷ rest ys))) ⌝ }
+        ensures behind { λ r. ⌜ ((f : ℕ → List ℕ) → Holds (now (self .entry)) f → (q : ℕ) (xs ys : List ℕ) → f q ≡ xs ++ (i .index ∷ ys) → First ys r) ⌝ }
         ensures free { λ r. ⌜ ((f : ℕ → List ℕ) → Holds (now (self .entry)) f → Free f (i .index) → BySome r (Unit {0}) (λ _. ⊥)) ⌝ }
     {
         let link = self.links[i.index()];
@@ -94,14 +93,15 @@ impl Queues {
 
     // Takes the first out.
     pub fn pop_front(&mut self, q: QueueId) -> Option<TaskId>
-        ensures after { λ r. ⌜ ((f : ℕ → List ℕ) → Holds (now (self .entry)) f → BySome r (f (q .index) ≡ []) (λ t. (f (q .index) ≡ (t .index ∷ rest (f (q .index)))) × Holds (now (self .exit)) (put (q .index) (rest (f (q .index))) f))) ⌝ }
+        ensures value { λ r. ⌜ ((f : ℕ → List ℕ) → Holds (now (self .entry)) f → First (f (q .index)) r) ⌝ }
+        ensures after { λ r. ⌜ ((f : ℕ → List ℕ) → Holds (now (self .entry)) f → Holds (now (self .exit)) (put (q .index) (rest (f (q .index))) f)) ⌝ }
         ensures same { λ r. ⌜ BySome r (now (self .exit) ≡ now (self .entry)) (λ _. Unit {0}) ⌝ }
     {
-        let first = self.front(q);
-        if let Some(i) = first {
-            self.remove(i);
-        }
-        first
+        let Some(i) = self.front(q) else {
+            return None;
+        };
+        self.unlink(q, i);
+        Some(i)
     }
 
     // Takes i out of its queue, if it stands in one.
@@ -144,9 +144,10 @@ impl Queues {
     fn unlink(&mut self, q: QueueId, i: TaskId)
         ensures { λ _. ⌜ now (self .exit) ≡ unlinked (q .index) (i .index) (now (self .entry)) ⌝ }
     {
-        let link = self.links[i.index()];
+        let k = i.index();
+        let link = self.links[k];
         self.join(q, link.prev, link.next);
-        self.links[i.index()].at = NONE;
+        self.links[k].at = NONE;
     }
 
     // Makes b follow a in the ring of q.

@@ -1,6 +1,5 @@
-use borrow.Author.Needs.{needs}
+use Rattle.queues.proofs.Told.{front-told}
 use Rattle.queues.proofs.fifo.Queues.front.Needs as need
 
--- src/fifo.rt:58:5
 pub returns : need.returns
-returns c = ?
+returns c f h = front-told h (c .args .q .index) (c .index .result) (c .new .result) (c .args .q .within) (c .index .ensures .value) (c .new .ensures)

@@ -1,6 +1,5 @@
-use borrow.Author.Needs.{needs}
+use Rattle.queues.proofs.Told.{new-holds}
 use Rattle.queues.proofs.fifo.Queues.new.Needs as need
 
--- src/fifo.rt:41:5
 pub returns : need.returns
-returns c = ?
+returns c = new-holds

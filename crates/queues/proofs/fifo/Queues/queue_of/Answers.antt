@@ -1,6 +1,5 @@
-use borrow.Author.Needs.{needs}
+use Rattle.queues.proofs.Told.{queue-told}
 use Rattle.queues.proofs.fifo.Queues.queue_of.Needs as need
 
--- src/fifo.rt:77:5
 pub returns : need.returns
-returns c = ?
+returns c f h = queue-told h (c .args .i .index) (c .index .result) (c .new .result) (c .args .i .within) (c .index .ensures .value) (c .new .ensures)
