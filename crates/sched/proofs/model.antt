@@ -1,1 +1,3 @@
 pub mod CallWays
+pub mod Windows
+pub mod Shares
