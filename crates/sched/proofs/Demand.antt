@@ -29,14 +29,13 @@ none-covered n share ends owed s o =
           omega arith;
     }
 
--- A claim is changed: it ends as before, is owed no more, and has no smaller share if it is open; or it was not open and opens
--- with no more owed than its share comes to.
-abbrev pub Changes : (share ends owed share' ends' owed' : ℕ → ℕ) → ℕ → Type 0
-Changes share ends owed share' ends' owed' i =
-    ((ends' i ≡ ends i) × (owed' i ≤ owed i) × (0 < ends i → share i ≤ share' i)) ⊎ ((ends i ≡ 0) × (10080 * owed' i ≤ share' i * ends' i))
+-- A claim with share s, end e and o owed is changed: it ends as before, is owed no more, and has no smaller share if it is open;
+-- or it was not open and opens with no more owed than its share comes to.
+abbrev pub Changes : (s e o s' e' o' : ℕ) → Type 0
+Changes s e o s' e' o' = ((e' ≡ e) × (o' ≤ o) × (0 < e → s ≤ s')) ⊎ ((e ≡ 0) × (10080 * o' ≤ s' * e'))
 
 module _ (n : ℕ) (share ends owed share' ends' owed' : ℕ → ℕ) where
-  change-one : (d i : ℕ) → Changes share ends owed share' ends' owed' i →
+  change-one : (d i : ℕ) → Changes (share i) (ends i) (owed i) (share' i) (ends' i) (owed' i) →
       10080 * owedIn ends' owed' d i + comesIn share ends d i ≤ 10080 * owedIn ends owed d i + comesIn share' ends' d i
   change-one d i (inl (e, o, s)) =
       let before = owed-cases ends owed d i in
@@ -53,7 +52,7 @@ module _ (n : ℕ) (share ends owed share' ends' owed' : ℕ → ℕ) where
         | inr (later, is) ↦ omega arith
       ]
 
-  pub change-covered : Covered n share ends owed → sum n share' ≤ 7560 → ((i : ℕ) → i < n → Changes share ends owed share' ends' owed' i) → Covered n share' ends' owed'
+  pub change-covered : Covered n share ends owed → sum n share' ≤ 7560 → ((i : ℕ) → i < n → Changes (share i) (ends i) (owed i) (share' i) (ends' i) (owed' i)) → Covered n share' ends' owed'
   change-covered c fit ch =
       record {
         shares = fit;

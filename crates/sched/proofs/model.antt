@@ -1,3 +1,4 @@
 pub mod CallWays
 pub mod Windows
 pub mod Shares
+pub mod Quotas

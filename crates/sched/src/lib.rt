@@ -4,6 +4,9 @@ ghost use mathlib.Core.Bool.{true, false};
 ghost use Prim.Native.Nat.{ℕ, _<_, _≤_, _+_};
 ghost use lib.Dec.{T};
 ghost use Rattle.sched.specs.House.{House, empty, calls, mayRun, after, goesOn'};
+ghost use Rattle.sched.specs.Promise.{SharesFit};
+ghost use Rattle.sched.specs.Windows.{WindowsWellFormed};
+ghost use Rattle.sched.specs.Policy.{QuotasHad};
 
 // Reserved: so many ticks of so many. Fixed: rank 0 goes first. Fair: by weight.
 #[derive(Clone, Copy)]
@@ -54,4 +57,25 @@ pub trait World {
     fn runs(&mut self, whose: Option<u32>, runs: u32)
         requires { ⌜ 0 < left (now self) ⌝ ∗ ⌜ T (mayRun (house (now self)) whose runs) ⌝ }
         ensures { λ _. ⌜ house (now (self .exit)) ≡ after (house (now (self .entry))) whose ⌝ ∗ ⌜ left (now (self .exit)) + 1 ≡ left (now (self .entry)) ⌝ };
+}
+
+// Whatever comes about, windows are well formed: open only for a reservation or a kept share, within its period and its quota.
+pub fn windows_well_formed() -> u8
+    ensures { λ _. ⌜ WindowsWellFormed ⌝ }
+{
+    0
+}
+
+// Whatever comes about, shares and kept shares are at most three quarters.
+pub fn shares_within() -> u8
+    ensures { λ _. ⌜ SharesFit ⌝ }
+{
+    0
+}
+
+// Under the policy, whole windows first and of these the earliest end, quotas are had.
+pub fn quotas_had() -> u8
+    ensures { λ _. ⌜ QuotasHad ⌝ }
+{
+    0
 }

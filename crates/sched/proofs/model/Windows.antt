@@ -153,15 +153,19 @@ module _ (h : House) (t : Option ℕ) (j : ℕ) (m : T (mayHave h t j)) where
 abbrev AllFormed : Out → Type 0
 AllFormed o = (i : ℕ) → Formed (o .house .place i) (o .house .window i)
 
-both-cond : {X Y : Type 0} (b : Bool) (x x' : X) (y y' : Y) (P : X → Y → Type 0) → P x y → P x' y' → P (cond b x x') (cond b y y')
-both-cond true x x' y y' P p p' = p
-both-cond false x x' y y' P p p' = p'
+-- two functions put at one place
+pub put-two : {X Y : Type 0} (n : ℕ) (x : X) (y : Y) (f : ℕ → X) (g : ℕ → Y) (i : ℕ) (P : X → Y → Type 0) → (i ≡ n → P x y) → P (f i) (g i) → P (put n x f i) (put n y g i)
+put-two n x y f g i P here else = go (eqb i n) (λ e. here (eqb-true i n e))
+  where
+    go : (b : Bool) → (b ≡ true → P x y) → P (cond b x (f i)) (cond b y (g i))
+    go true p = p refl
+    go false p = else
 
 formed-ways : (h : House) → ((i : ℕ) → Formed (h .place i) (h .window i)) → Ways h AllFormed
 formed-ways h f =
     record {
       refused = λ n. f;
-      make = λ n k _ _ _ g _ i. both-cond (eqb i n) (A k) (h .place i) Shut (h .window i) Formed (shut k (true-T (good k) g)) (f i);
+      make = λ n k _ _ _ g _ i. put-two n (A k) Shut (h .place) (h .window) i Formed (λ _. shut k (true-T (good k) g)) (f i);
       end = λ i _ t _ _ j. put-both i (leaves (h .window i) (h .place i)) (h .place) j (λ p. Formed p (h .window j)) (λ e. rw e (formed-leaves (f i) t)) (λ _. f j);
       wake = λ i _ _. f;
       sleep = λ i _ _ _. f;
