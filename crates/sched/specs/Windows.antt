@@ -1,7 +1,7 @@
 -- Which window can stand at a place.
 -- Assumes nothing.
 use mathlib.Core.Bool.{Bool, true, false}
-use Prim.Native.Nat.{ℕ, _≤_}
+use Prim.Native.Nat.{ℕ, _<_, _≤_}
 use lib.Dec.{T}
 use Rattle.sched.specs.declared.Kind.{Kind}
 use Rattle.sched.specs.declared.Kind.the-variants.{Reserved}
@@ -22,8 +22,8 @@ isWhole (Open e g b) = b
 pub data Formed : Place → Window → Type 0 where
   free : Formed Nobody Shut
   shut : (k : Kind) → T (good k) → Formed (A k) Shut
-  open' : (q p e g : ℕ) (b : Bool) → T (good (Reserved q p)) → 1 ≤ e → e ≤ p → g ≤ q → Formed (A (Reserved q p)) (Open e g b)
-  kept' : (q p e g : ℕ) (b : Bool) → T (good (Reserved q p)) → 1 ≤ e → e ≤ p → g ≤ q → Formed (Kept q p) (Open e g b)
+  open' : (q p e g : ℕ) (b : Bool) → T (good (Reserved q p)) → 0 < e → e ≤ p → g ≤ q → Formed (A (Reserved q p)) (Open e g b)
+  kept' : (q p e g : ℕ) (b : Bool) → T (good (Reserved q p)) → 0 < e → e ≤ p → g ≤ q → Formed (Kept q p) (Open e g b)
 
 abbrev pub WindowsWellFormed : Type 0
 WindowsWellFormed = (h : House) → Comes h → (i : ℕ) → Formed (h .place i) (h .window i)

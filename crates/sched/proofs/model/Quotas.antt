@@ -234,7 +234,8 @@ module _ (h : House) (t : Option ℕ) where
   soonest f k e i l o =
       let w = f .first i l (whole-due h i o) in
       let same : w .0 ≡ k = omega (arith, w .1) in
-      subst (λ x. endsOf (opened h .window x) ≤ endsOf (opened h .window i)) same (w .3)
+      let there : endsOf (opened h .window (w .0)) ≡ endsOf (opened h .window k) = ap (λ x. endsOf (opened h .window x)) same in
+      omega (arith, w .3)
 
   first-served : (j : ℕ) → T (mayHave h t j) → WholeFirst h t → FirstServed 64 share ends owed share' ends' owed'
   unfolding owed
