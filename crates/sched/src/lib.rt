@@ -4,7 +4,7 @@ ghost use mathlib.Core.Bool.{true, false};
 ghost use Prim.Native.Nat.{ℕ, _<_, _≤_, _+_};
 ghost use lib.Dec.{T};
 ghost use Rattle.sched.specs.House.{House, empty, calls, mayRun, after, goesOn'};
-ghost use Rattle.sched.specs.Promise.{SharesFit};
+ghost use Rattle.sched.specs.Promise.{NoRings, RowsStand, SharesFit};
 ghost use Rattle.sched.specs.Windows.{WindowsWellFormed};
 ghost use Rattle.sched.specs.Policy.{QuotasHad};
 
@@ -59,14 +59,26 @@ pub trait World {
         ensures { λ _. ⌜ house (now (self .exit)) ≡ after (house (now (self .entry))) whose ⌝ ∗ ⌜ left (now (self .exit)) + 1 ≡ left (now (self .entry)) ⌝ };
 }
 
-// Whatever comes about, windows are well formed: open only for a reservation or a kept share, within its period and its quota.
+// What is promised beside, each a theorem that a contract names.
+pub fn no_rings() -> u8
+    ensures { λ _. ⌜ NoRings ⌝ }
+{
+    0
+}
+
+pub fn rows_stand() -> u8
+    ensures { λ _. ⌜ RowsStand ⌝ }
+{
+    0
+}
+
+// Windows are open only for a reservation or a kept share, within its period and its quota.
 pub fn windows_well_formed() -> u8
     ensures { λ _. ⌜ WindowsWellFormed ⌝ }
 {
     0
 }
 
-// Whatever comes about, shares and kept shares are at most three quarters.
 pub fn shares_within() -> u8
     ensures { λ _. ⌜ SharesFit ⌝ }
 {
