@@ -266,13 +266,16 @@ served-last false p (Open (suc zero) g true) z = let none = z refl in le-leb (qu
 served-last m p (Open (suc zero) g false) z = refl
 served-last m p (Open (suc (suc e)) g b) z = refl
 
--- whoever has the tick
+-- in its last tick nothing is owed for a window
+pub quotas-last : (h : House) (i : ℕ) → i < 64 → Quotas (h .place) (h .window) → endsOf (opened h .window i) ≡ 1 → owedOf (h .place i) (opened h .window i) ≡ 0
+quotas-last h i l q =
+    last-covered 64 (λ i. shareOf (h .place i)) (λ i. endsOf (opened h .window i)) (λ i. owedOf (h .place i) (opened h .window i)) (quotas-opened h q .covered) i l
+
+-- so quotas are had, whoever has the tick
 pub quotas-kept : (h : House) (r : ℕ) → Quotas (h .place) (h .window) → T (kept (opened h) r)
 quotas-kept h r q =
-    let c = quotas-opened h q .covered in
     true-T (kept (opened h) r) (every-from (λ (i : ℕ). served (eqb r (suc i)) (quotaOf (h .place i)) (opened h .window i)) 64
-    (λ i l. served-last (eqb r (suc i)) (h .place i) (opened h .window i)
-    (last-covered 64 (λ i. shareOf (h .place i)) (λ i. endsOf (opened h .window i)) (λ i. owedOf (h .place i) (opened h .window i)) c i l)))
+    (λ i l. served-last (eqb r (suc i)) (h .place i) (opened h .window i) (quotas-last h i l q)))
 
 pub follows-quotas : {h : House} → Follows h → Quotas (h .place) (h .window)
 follows-quotas begin = quotas-empty
