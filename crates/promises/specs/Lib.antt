@@ -1,2 +1,3 @@
 pub mod Scenes
 pub mod Reserved
+pub mod Quarter

@@ -48,7 +48,7 @@ turned-covered place place' window window' q fit t =
     change-covered 64 (λ i. shareOf (place i)) (λ i. endsOf (window i)) (λ i. owedOf (place i) (window i)) (λ i. shareOf (place' i)) (λ i. endsOf (window' i)) (λ i. owedOf (place' i) (window' i)) (q .covered) fit (λ i _. t i)
 
 -- in its window a share comes to the quota, since the period divides 10,080
-share-period : (q p : ℕ) → T (good (Reserved q p)) → q * (10080 / p) * p ≡ 10080 * q
+pub share-period : (q p : ℕ) → T (good (Reserved q p)) → q * (10080 / p) * p ≡ 10080 * q
 share-period q p g =
     let n = numbers q p g in
     let d : p * (10080 / p) + 10080 % p ≡ 10080 = div-add-mod 10080 p in
@@ -133,7 +133,7 @@ owed-due (Kept q p) Shut v l = absurd (omega arith)
 owed-due (Kept q p) (Open e g b) v l = absurd (omega arith)
 
 -- the house's windows don't matter to who runs, nor so to who wants
-runner-opened : (n : ℕ) (h : House) (i : ℕ) → runner n (opened h) i ≡ runner n h i
+pub runner-opened : (n : ℕ) (h : House) (i : ℕ) → runner n (opened h) i ≡ runner n h i
 unfolding runner
 runner-opened zero h i = refl
 runner-opened (suc n) h i = rw (runner-opened n h (h .owner (h .waits i - 1) - 1)) refl

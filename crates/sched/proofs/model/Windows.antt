@@ -22,6 +22,7 @@ use Rattle.sched.proofs.model.CallWays.{Ways, call-ways}
 -- the numbers of a reservation
 pub record Numbers (q p : ℕ) : Type 0 where
   pub longer : 4 ≤ p
+  pub shorter : p ≤ 10080
   pub divides : 10080 % p ≡ 0
   pub some : 1 ≤ q
 
@@ -35,6 +36,7 @@ numbers q p t =
     let b = and-left-T (l && u && d) (leb 1 q) a in
     record {
       longer = leb→le 4 p (and-left-T l u (and-left-T (l && u) d b));
+      shorter = leb→le p 10080 (and-right-T l u (and-left-T (l && u) d b));
       divides = eqb→eq (10080 % p) 0 (and-right-T (l && u) d b);
       some = leb→le 1 q (and-right-T (l && u && d) (leb 1 q) a);
     }
@@ -109,6 +111,12 @@ fair-period (A (Fixed r)) l = refl
 fair-period (A (Fair x)) l = refl
 fair-period (Kept q p) l = absurd (omega arith)
 
+-- why i may have the tick: it is due; or nobody is, and it is in turn among the fixed ones, or the least far of the fair ones
+pub data Taken (h : House) (i : ℕ) : Type 0 where
+  by-due : T (due h i) → Taken h i
+  by-rank : some' 16 (λ (r : ℕ). some' 64 (rankWants h r)) ≡ true → periodOf (h .place i) ≡ 0 → Taken h i
+  by-fair : T (leastFar h i) → periodOf (h .place i) ≡ 0 → Taken h i
+
 module _ (h : House) (i : ℕ) where
   pub due-got : T (due h i) → gotOf (h .window i) < quotaOf (h .place i)
   due-got d = ltb→lt (gotOf (h .window i)) (quotaOf (h .place i)) (and-right-T (isReserved (h .place i) && wants h i) (ltb (gotOf (h .window i)) (quotaOf (h .place i))) d)
@@ -128,12 +136,20 @@ module _ (h : House) (i : ℕ) where
   pub take-below : T (mayTake h i) → i < 64
   take-below t = ltb→lt i 64 (and-left-T (ltb i 64) _ t)
 
-  pub take-entitled : T (mayTake h i) → Entitled (h .place i) (h .window i)
-  take-entitled t =
-      let P : Bool → Type 0 = λ b. T b → Entitled (h .place i) (h .window i) in
-      cond-both (some' 64 (due h)) (due h i) _ P (λ _ d. inl (due-got d))
-      (λ _. cond-both (some' 16 (λ (r : ℕ). some' 64 (rankWants h r))) (eqb (suc i) (inTurn (rankWants h (topRank h)) (h .turn))) (leastFar h i) P (λ _ e. inr (ranked e)) (λ _ e. inr (fair e)))
+  pub take-ways : T (mayTake h i) → Taken h i
+  take-ways t =
+      let P : Bool → Type 0 = λ b. T b → Taken h i in
+      cond-both (some' 64 (due h)) (due h i) _ P (λ _ d. by-due d)
+      (λ _. cond-both (some' 16 (λ (r : ℕ). some' 64 (rankWants h r))) (eqb (suc i) (inTurn (rankWants h (topRank h)) (h .turn))) (leastFar h i) P (λ s e. by-rank s (ranked e)) (λ _ e. by-fair e (fair e)))
       (and-right-T (ltb i 64) _ t)
+
+  taken-entitled : Taken h i → Entitled (h .place i) (h .window i)
+  taken-entitled (by-due d) = inl (due-got d)
+  taken-entitled (by-rank _ e) = inr e
+  taken-entitled (by-fair _ e) = inr e
+
+  pub take-entitled : T (mayTake h i) → Entitled (h .place i) (h .window i)
+  take-entitled t = taken-entitled (take-ways t)
 
 -- a tick that is i's is one that i may take
 have-take : (r i : ℕ) (rest : Bool) (take runs : ℕ → Bool) → r ≡ suc i → T (cond (eqb r 0) rest (take (r - 1) && runs (r - 1))) → T (take i)
