@@ -1,4 +1,6 @@
 pub mod Tests
 pub mod Puts
 pub mod Bounded
+pub mod Sums
+pub mod Demand
 pub mod model

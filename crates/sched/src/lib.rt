@@ -4,7 +4,9 @@ ghost use mathlib.Core.Bool.{true, false};
 ghost use Prim.Native.Nat.{ℕ, _<_, _≤_, _+_};
 ghost use lib.Dec.{T};
 ghost use Rattle.sched.specs.House.{House, empty, calls, mayRun, after, goesOn'};
-ghost use Rattle.sched.specs.Promise.{NoRings, RowsStand};
+ghost use Rattle.sched.specs.Promise.{NoRings, RowsStand, SharesFit};
+ghost use Rattle.sched.specs.Windows.{WindowsWellFormed};
+ghost use Rattle.sched.specs.Policy.{QuotasHad};
 
 mod calls;
 mod class;
@@ -144,6 +146,26 @@ pub fn no_rings() -> u8
 
 pub fn rows_stand() -> u8
     ensures { λ _. ⌜ RowsStand ⌝ }
+{
+    0
+}
+
+// Windows are open only for a reservation or a kept share, within its period and its quota.
+pub fn windows_well_formed() -> u8
+    ensures { λ _. ⌜ WindowsWellFormed ⌝ }
+{
+    0
+}
+
+pub fn shares_within() -> u8
+    ensures { λ _. ⌜ SharesFit ⌝ }
+{
+    0
+}
+
+// Under the policy, whole windows first and of these the earliest end, quotas are had.
+pub fn quotas_had() -> u8
+    ensures { λ _. ⌜ QuotasHad ⌝ }
 {
     0
 }
