@@ -1,2 +1,5 @@
+pub mod Tests
+pub mod Puts
+pub mod Bounded
 pub mod Fractions
-pub mod Positions
+pub mod model

@@ -1,0 +1,51 @@
+-- A test as a fact, `T b`, and as an equation, `b ≡ true`: from each to the other, and through `not`, `&&` and `||`.
+use mathlib.Core.Path.{_≡_, refl, sym}
+use mathlib.Core.Bool.{Bool, true, false, not, _&&_, _||_, true≢false, false≢true}
+use mathlib.Core.Logic.{_⊎_, inl, inr}
+use lib.Dec.{T}
+
+pub T-true : (b : Bool) → T b → b ≡ true
+T-true true t = refl
+T-true false t = absurd t
+
+pub true-T : (b : Bool) → b ≡ true → T b
+true-T true e = tt
+true-T false e = absurd (false≢true e)
+
+pub T-not-false : (b : Bool) → T (not b) → b ≡ false
+T-not-false true t = absurd t
+T-not-false false t = refl
+
+pub false-T-not : (b : Bool) → b ≡ false → T (not b)
+false-T-not true e = absurd (true≢false e)
+false-T-not false e = tt
+
+pub and-T : (a b : Bool) → T a → T b → T (a && b)
+and-T true b t u = u
+and-T false b t u = t
+
+pub and-left-T : (a b : Bool) → T (a && b) → T a
+and-left-T true b t = tt
+and-left-T false b t = t
+
+pub and-right-T : (a b : Bool) → T (a && b) → T b
+and-right-T true b t = t
+and-right-T false b t = absurd t
+
+pub or-left-T : (a b : Bool) → T a → T (a || b)
+or-left-T true b t = tt
+or-left-T false b t = absurd t
+
+pub or-right-T : (a b : Bool) → T b → T (a || b)
+or-right-T true b t = tt
+or-right-T false b t = t
+
+pub or-cases-T : (a b : Bool) → T (a || b) → T a ⊎ T b
+or-cases-T true b t = inl tt
+or-cases-T false b t = inr t
+
+-- two tests that each imply the other are one
+pub same-test : (a b : Bool) → (a ≡ true → b ≡ true) → (b ≡ true → a ≡ true) → a ≡ b
+same-test true b f g = sym (f refl)
+same-test false true f g = g refl
+same-test false false f g = refl

@@ -1,0 +1,3 @@
+pub mod CallWays
+pub mod Position
+pub mod Positions

@@ -1,0 +1,119 @@
+-- The branches of `calls`, split once: what a call may come to, each way with what its tests tell.
+use mathlib.Core.Path.{_≡_, refl}
+use mathlib.Core.Bool.{true, false, not, cond, _||_, false≢true}
+use mathlib.Core.List.{List, [], _∷_, _++_}
+use Prim.Native.Nat.{ℕ, suc, _+_, _-_, _<_, _≤_}
+use native.Mathlib.Omega.{arith}
+use lib.Dec.{eqb, ltb, leb}
+use Rattle.std.proofs.shelf.Tests.{cond-both, not-false, and-parts, or-parts, ltb-true, ltb-false, leb-false, eqb-true, eqb-false, ne-eqb}
+use Rattle.sched.specs.declared.Kind.{Kind}
+use Rattle.sched.specs.declared.Call.{Call}
+use Rattle.sched.specs.declared.Call.the-variants.{Make, End, Wake, Sleep, Lock, Unlock}
+use Rattle.sched.specs.declared.Answer.the-variants.{Done, Id}
+use Rattle.sched.specs.House.{House, Place, Nobody, A, Kept, Shut, Out, out, no, put, makes, anew, newAt, some', sum, isNobody, isTask, shareOf, shareOfKind, good, isA, holds, leaves, without, firstOf, restOf, runner, calls}
+use Rattle.sched.proofs.Bounded.{first-is, first-below}
+
+-- THE HOUSE AFTER EACH CALL THAT IS GRANTED
+-- a task of kind k is made at place n
+abbrev pub made : ℕ → Kind → House → House
+made n k h =
+    anew n (makes h (put n (A k) (h .place)) (put n false (h .awake)) (h .waits) (h .owner) (h .row) (put n Shut (h .window)) (h .turn ++ (n ∷ [])))
+
+abbrev pub ended : ℕ → House → House
+ended i h =
+    makes h (put i (leaves (h .window i) (h .place i)) (h .place)) (put i false (h .awake)) (h .waits) (h .owner) (h .row) (h .window) (without i (h .turn))
+
+abbrev pub woken : ℕ → House → House
+woken i h = makes h (h .place) (put i true (h .awake)) (h .waits) (h .owner) (h .row) (h .window) (h .turn)
+
+abbrev pub asleep : ℕ → House → House
+asleep i h = makes h (h .place) (put i false (h .awake)) (h .waits) (h .owner) (h .row) (h .window) (h .turn)
+
+-- i takes the lock m, which nobody has
+abbrev pub takes : ℕ → ℕ → House → House
+takes i m h = makes h (h .place) (h .awake) (h .waits) (put m (suc i) (h .owner)) (h .row) (h .window) (h .turn)
+
+-- i waits for the lock m, last in its row
+abbrev pub queues : ℕ → ℕ → House → House
+queues i m h =
+    makes h (h .place) (h .awake) (put i (suc m) (h .waits)) (h .owner) (put m (h .row m ++ (i ∷ [])) (h .row)) (h .window) (h .turn)
+
+-- m is given back, and nobody waits for it
+abbrev pub frees : ℕ → House → House
+frees m h = makes h (h .place) (h .awake) (h .waits) (put m 0 (h .owner)) (put m [] (h .row)) (h .window) (h .turn)
+
+-- m is given back, and j, first in its row, has it; js are behind it
+abbrev pub passes : ℕ → ℕ → List ℕ → House → House
+passes m j js h =
+    makes h (h .place) (h .awake) (put j 0 (h .waits)) (put m (suc j) (h .owner)) (put m js (h .row)) (h .window) (h .turn)
+
+-- P holds of whatever a call may come to
+pub record Ways (h : House) (P : Out → Type 0) : Type 0 where
+  pub refused : (n : ℕ) → P (no n h)
+  pub make : (n : ℕ) (k : Kind) → n ≡ newAt h → n < 64 → h .place n ≡ Nobody → good k ≡ true → sum 64 (λ i. shareOf (h .place i)) + shareOfKind k ≤ 7560 → P (out (Id n) (made n k h))
+  pub end : (i : ℕ) → i < 64 → isTask (h .place i) ≡ true → h .waits i ≡ 0 → holds h i ≡ false → P (out Done (ended i h))
+  pub wake : (i : ℕ) → i < 64 → isTask (h .place i) ≡ true → P (out Done (woken i h))
+  pub sleep : (i : ℕ) → i < 64 → isTask (h .place i) ≡ true → h .waits i ≡ 0 → P (out Done (asleep i h))
+  pub take : (i m : ℕ) → i < 64 → isTask (h .place i) ≡ true → m < 64 → h .waits i ≡ 0 → h .awake i ≡ true → h .owner m ≡ 0 → P (out Done (takes i m h))
+  pub queue : (i m : ℕ) → i < 64 → isTask (h .place i) ≡ true → m < 64 → h .waits i ≡ 0 → h .awake i ≡ true → (h .owner m ≡ 0 → ⊥) → (runner 64 h (h .owner m - 1) ≡ i → ⊥) → P (out Done (queues i m h))
+  pub free : (i m : ℕ) → i < 64 → isTask (h .place i) ≡ true → m < 64 → h .waits i ≡ 0 → h .owner m ≡ suc i → h .row m ≡ [] → P (out Done (frees m h))
+  pub pass : (i m j : ℕ) (js : List ℕ) → i < 64 → isTask (h .place i) ≡ true → m < 64 → h .waits i ≡ 0 → h .owner m ≡ suc i → h .row m ≡ j ∷ js → P (out Done (passes m j js h))
+
+nobody : (p : Place) → isNobody p ≡ true → p ≡ Nobody
+unfolding isNobody
+nobody Nobody e = refl
+nobody (A k) e = absurd (false≢true e)
+nobody (Kept q p) e = absurd (false≢true e)
+
+module _ (h : House) (P : Out → Type 0) (w : Ways h P) where
+  -- a call that begins by asking whether i is a task
+  if-task : (i : ℕ) (o : Out) → (i < 64 → isTask (h .place i) ≡ true → P o) → P (cond (not (isA h i)) (no 4 h) o)
+  if-task i o then =
+      cond-both (not (isA h i)) (no 4 h) o P (λ _. w .refused 4)
+      (λ e. let a = and-parts (ltb i 64) (isTask (h .place i)) (not-false (isA h i) e) in then (ltb-true i 64 (a .0)) (a .1))
+
+  -- and then whether it waits
+  unless-waits : (i : ℕ) (o : Out) → (h .waits i ≡ 0 → P o) → P (cond (not (eqb (h .waits i) 0)) (no 9 h) o)
+  unless-waits i o then =
+      cond-both (not (eqb (h .waits i) 0)) (no 9 h) o P (λ _. w .refused 9) (λ e. then (eqb-true (h .waits i) 0 (not-false (eqb (h .waits i) 0) e)))
+
+  -- and whether there is such a lock
+  if-lock : (m : ℕ) (o : Out) → (m < 64 → P o) → P (cond (leb 64 m) (no 1 h) o)
+  if-lock m o then = cond-both (leb 64 m) (no 1 h) o P (λ _. w .refused 1) (λ e. then (leb-false 64 m e))
+
+  given-back : (i m : ℕ) → i < 64 → isTask (h .place i) ≡ true → m < 64 → h .waits i ≡ 0 → h .owner m ≡ suc i → (r : List ℕ) → h .row m ≡ r →
+      P (out Done (makes h (h .place) (h .awake) (cond (eqb (firstOf r) 0) (h .waits) (put (firstOf r - 1) 0 (h .waits))) (put m (firstOf r) (h .owner)) (put m (restOf r) (h .row)) (h .window) (h .turn)))
+  unfolding firstOf restOf
+  given-back i m l t l′ e o [] r = w .free i m l t l′ e o r
+  given-back i m l t l′ e o (j ∷ js) r =
+      let one : suc j - 1 ≡ j = omega arith in
+      let some : eqb (suc j) 0 ≡ false = ne-eqb (suc j) 0 (omega arith) in
+      rw (some, one) (w .pass i m j js l t l′ e o r)
+
+  pub call-ways : (c : Call) → P (calls c h)
+  unfolding calls
+  call-ways (Make k) =
+      cond-both (not (good k)) (no 1 h) _ P (λ _. w .refused 1) (λ g.
+      cond-both (not (some' 64 (λ (i : ℕ). isNobody (h .place i)))) (no 2 h) _ P (λ _. w .refused 2) (λ s.
+      cond-both (ltb 7560 (sum 64 (λ i. shareOf (h .place i)) + shareOfKind k)) (no 3 h) _ P (λ _. w .refused 3) (λ f.
+      let one = not-false (some' 64 (λ (i : ℕ). isNobody (h .place i))) s in
+      w .make (newAt h) k refl (first-below (λ (i : ℕ). isNobody (h .place i)) 64 one)
+      (nobody (h .place (newAt h)) (first-is (λ (i : ℕ). isNobody (h .place i)) 64 one))
+      (not-false (good k) g) (ltb-false 7560 (sum 64 (λ i. shareOf (h .place i)) + shareOfKind k) f))))
+  call-ways (End i) =
+      if-task i _ (λ l t. unless-waits i _ (λ e. cond-both (holds h i) (no 6 h) _ P (λ _. w .refused 6) (λ f. w .end i l t e f)))
+  call-ways (Wake i) = if-task i _ (w .wake i)
+  call-ways (Sleep i) = if-task i _ (λ l t. unless-waits i _ (w .sleep i l t))
+  call-ways (Lock i m) =
+      if-task i _ (λ l t. if-lock m _ (λ l′.
+      cond-both (not (eqb (h .waits i) 0) || not (h .awake i)) (no 9 h) _ P (λ _. w .refused 9) (λ e.
+      let p = or-parts (not (eqb (h .waits i) 0)) (not (h .awake i)) e in
+      let waits : h .waits i ≡ 0 = eqb-true (h .waits i) 0 (not-false (eqb (h .waits i) 0) (p .0)) in
+      let awake : h .awake i ≡ true = not-false (h .awake i) (p .1) in
+      cond-both (eqb (h .owner m) 0) _ _ P (λ o. w .take i m l t l′ waits awake (eqb-true (h .owner m) 0 o)) (λ o.
+      cond-both (eqb (runner 64 h (h .owner m - 1)) i) (no 5 h) _ P (λ _. w .refused 5) (λ r.
+      w .queue i m l t l′ waits awake (eqb-false (h .owner m) 0 o) (eqb-false (runner 64 h (h .owner m - 1)) i r))))))
+  call-ways (Unlock i m) =
+      if-task i _ (λ l t. if-lock m _ (λ l′. unless-waits i _ (λ e.
+      cond-both (not (eqb (h .owner m) (suc i))) (no 8 h) _ P (λ _. w .refused 8) (λ o.
+      given-back i m l t l′ e (eqb-true (h .owner m) (suc i) (not-false (eqb (h .owner m) (suc i)) o)) (h .row m) refl))))
