@@ -1,3 +1,4 @@
 pub mod CallWays
 pub mod Position
 pub mod Positions
+pub mod TakeWays
