@@ -1,2 +1,3 @@
 pub mod House
 pub mod Promise
+pub mod Nearer

@@ -4,6 +4,7 @@ ghost use mathlib.Core.Bool.{true, false};
 ghost use Prim.Native.Nat.{ℕ, _<_, _≤_, _+_};
 ghost use lib.Dec.{T};
 ghost use Rattle.sched.specs.House.{House, empty, calls, mayRun, after, goesOn'};
+ghost use Rattle.sched.specs.Promise.{NearEachOther};
 
 // Reserved: so many ticks of so many. Fixed: rank 0 goes first. Fair: by weight.
 #[derive(Clone, Copy)]
@@ -54,4 +55,10 @@ pub trait World {
     fn runs(&mut self, whose: Option<u32>, runs: u32)
         requires { ⌜ 0 < left (now self) ⌝ ∗ ⌜ T (mayRun (house (now self)) whose runs) ⌝ }
         ensures { λ _. ⌜ house (now (self .exit)) ≡ after (house (now (self .entry))) whose ⌝ ∗ ⌜ left (now (self .exit)) + 1 ≡ left (now (self .entry)) ⌝ };
+}
+
+pub fn near_each_other() -> u8
+    ensures { λ _. ⌜ NearEachOther ⌝ }
+{
+    0
 }

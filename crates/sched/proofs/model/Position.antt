@@ -48,7 +48,7 @@ position-joined w m s o b pw ls =
     let below : up * o < s * w + o = ceiling-below (s * w) o (omega arith) in
     let fits : up ≤ w = ceiling-fits s w o ls in
     let at : (f r : ℕ) → r < w → f * w + r ≡ m * w + up → Position w f r m s o b = λ f r l e.
-      record { proper = l; near = rw e (omega arith); reached = λ _. rw e (omega arith) } in
+    record { proper = l; near = rw e (omega arith); reached = λ _. rw e (omega arith) } in
     ⊎-elim (λ e. rw e (at m up (ltb-true up w e) refl)) (λ e. let l : w ≤ up = ltb-false up w e in rw e (at (m + 1) 0 pw (omega arith))) (cases-bool (ltb up w))
 
 -- the mark moves up, but not beyond who wants

@@ -47,7 +47,8 @@ module _ (place : ℕ → Place) (far rest : ℕ → ℕ) (m s o : ℕ) (wanted 
         mark-proper = at .mark-proper;
         within = λ i l. ⊎-elim (λ e. rw e ln) (λ e. at .within i (rw (same i e) at l)) (cases-eq i n);
         each = λ i l. ⊎-elim (λ e. rw (eq-eqb i n e, e, lt-ltb 0 (weightOf (p n)) (rw e at l)) (position-made (weightOf (p n)) m s o (rw e at l) (at .mark-proper)))
-        (λ e. rw (ne-eqb i n e, same i e) (at .each i (rw (same i e) at l))) (cases-eq i n) }
+            (λ e. rw (ne-eqb i n e, same i e) (at .each i (rw (same i e) at l))) (cases-eq i n);
+      }
 
 leaves-weight : (w : Window) (p : Place) → weightOf (leaves w p) ≡ 0
 unfolding leaves weightOf
@@ -60,13 +61,14 @@ positions-ways h at =
       refused = λ n. at;
       make = λ n k _ l _ _ _. positions-made (h .place) (h .far) (h .rest) (h .markFar) (h .markRest) (h .markOver) (h .wanted) at n (put n (A k) (h .place)) l (put-else n (A k) (h .place));
       end = λ i _ _ _ _. positions-placed (h .place) (h .far) (h .rest) (h .markFar) (h .markRest) (h .markOver) (h .wanted) at (put i (leaves (h .window i) (h .place i)) (h .place))
-        (λ j. put-both i (leaves (h .window i) (h .place i)) (h .place) j (λ p. 0 < weightOf p → weightOf p ≡ weightOf (h .place j)) (λ _ l. absurd (omega (arith, leaves-weight (h .window i) (h .place i)))) (λ _ _. refl));
+          (λ j. put-both i (leaves (h .window i) (h .place i)) (h .place) j (λ p. 0 < weightOf p → weightOf p ≡ weightOf (h .place j)) (λ _ l. absurd (omega (arith, leaves-weight (h .window i) (h .place i)))) (λ _ _. refl));
       wake = λ i _ _. at;
       sleep = λ i _ _ _. at;
       take = λ i m _ _ _ _ _ _. at;
       queue = λ i m _ _ _ _ _ _ _. at;
       free = λ i m _ _ _ _ _ _. at;
-      pass = λ i m j js _ _ _ _ _ _. at }
+      pass = λ i m j js _ _ _ _ _ _. at;
+    }
 
 pub positions-called : (h : House) (c : Call) → PositionsOf h → PositionsOf (calls c h .house)
 positions-called h c at = call-ways h (λ o. PositionsOf (o .house)) (positions-ways h at) c
@@ -79,9 +81,10 @@ positions-joined h wants' wanting at =
       mark-proper = at .mark-proper;
       within = at .within;
       each = λ i l. let old = at .each i l in
-        position-either (joins h i) (weightOf (h .place i)) _ _ (h .far i) (h .rest i) (h .markFar) (h .markRest) (h .markOver) (wants' i)
-        (λ _. position-joined (weightOf (h .place i)) (h .markFar) (h .markRest) (h .markOver) (wants' i) l (at .mark-proper))
-        (λ stays. record { proper = old .proper; near = old .near; reached = λ e. reached i old (wanting i e) stays (cases-bool (h .wanted i)) }) }
+          position-either (joins h i) (weightOf (h .place i)) _ _ (h .far i) (h .rest i) (h .markFar) (h .markRest) (h .markOver) (wants' i)
+          (λ _. position-joined (weightOf (h .place i)) (h .markFar) (h .markRest) (h .markOver) (wants' i) l (at .mark-proper))
+          (λ stays. record { proper = old .proper; near = old .near; reached = λ e. reached i old (wanting i e) stays (cases-bool (h .wanted i)) });
+    }
   where
     reached : (i : ℕ) → Position (weightOf (h .place i)) (h .far i) (h .rest i) (h .markFar) (h .markRest) (h .markOver) (h .wanted i) → fairWants h i ≡ true → joins h i ≡ false → (h .wanted i ≡ true) ⊎ (h .wanted i ≡ false) →
         (h .markFar * h .markOver + h .markRest) * weightOf (h .place i) ≤ (h .far i * weightOf (h .place i) + h .rest i) * h .markOver
@@ -118,7 +121,7 @@ marked-either : (h : House) (b : Bool) (m s o n t p : ℕ) → (b ≡ true → M
 marked-either h true m s o n t p y f = y refl
 marked-either h false m s o n t p y f = f refl
 
-freed-weight : (w : Window) (p : Place) → weightOf (freed w p) ≡ weightOf p
+pub freed-weight : (w : Window) (p : Place) → weightOf (freed w p) ≡ weightOf p
 unfolding freed weightOf
 freed-weight Shut Nobody = refl
 freed-weight Shut (A k) = refl
@@ -177,9 +180,10 @@ module _ (h : House) (at : Positions (h .place) (h .far) (h .rest) (h .markFar) 
         mark-proper = mark .proper;
         within = at .within;
         each = λ i l.
-          position-stepped (goesOn h r i) (weightOf (h .place i)) (h .far i) (h .rest i) (ticked h r .markFar) (ticked h r .markRest) (ticked h r .markOver) (fairWants h i) (mark .proper)
-          (position-marked (weightOf (h .place i)) (h .far i) (h .rest i) (h .markFar) (h .markRest) (h .markOver) (ticked h r .markFar) (ticked h r .markRest) (ticked h r .markOver) (fairWants h i) (fairWants h i) (mark .proper) (at .each i l) (mark .up) (mark .reached i))
-          (λ g. mark .reaches i (least i (eqb-true r (suc i) (and-parts (eqb r (suc i)) (ltb 0 (weightOf (h .place i))) g .0)) l)) })
+            position-stepped (goesOn h r i) (weightOf (h .place i)) (h .far i) (h .rest i) (ticked h r .markFar) (ticked h r .markRest) (ticked h r .markOver) (fairWants h i) (mark .proper)
+            (position-marked (weightOf (h .place i)) (h .far i) (h .rest i) (h .markFar) (h .markRest) (h .markOver) (ticked h r .markFar) (ticked h r .markRest) (ticked h r .markOver) (fairWants h i) (fairWants h i) (mark .proper) (at .each i l) (mark .up) (mark .reached i))
+            (λ g. mark .reaches i (least i (eqb-true r (suc i) (and-parts (eqb r (suc i)) (ltb 0 (weightOf (h .place i))) g .0)) l));
+      })
       (ticked h r .place) (λ i _. freed-weight (passed (eqb r (suc i)) (h .window i)) (h .place i))
 
 pub positions-after : (h : House) (t : Option ℕ) (j : ℕ) → T (mayRun h t j) → PositionsOf h → PositionsOf (after h t)

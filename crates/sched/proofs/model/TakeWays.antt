@@ -21,11 +21,12 @@ pub data Takes (h : House) (i : ℕ) : Type 0 where
 
 pub take-ways : (h : House) (i : ℕ) → mayTake h i ≡ true → (i < 64) × Takes h i
 take-ways h i e =
-    let both = and-parts (ltb i 64) (cond (some' 64 (due h)) (due h i) (cond (some' 16 (λ (r : ℕ). some' 64 (rankWants h r))) (eqb (suc i) (inTurn (rankWants h (topRank h)) (h .turn))) (leastFar h i))) e in
-    (ltb-true i 64 (both .0),
-    cond-both (some' 64 (due h)) (due h i) (cond (some' 16 (λ (r : ℕ). some' 64 (rankWants h r))) (eqb (suc i) (inTurn (rankWants h (topRank h)) (h .turn))) (leastFar h i)) (λ b. b ≡ true → Takes h i) (λ _. as-due)
-    (λ d. cond-both (some' 16 (λ (r : ℕ). some' 64 (rankWants h r))) (eqb (suc i) (inTurn (rankWants h (topRank h)) (h .turn))) (leastFar h i) (λ b. b ≡ true → Takes h i)
-    (λ _ t. as-fixed d (sym (eqb-true (suc i) (inTurn (rankWants h (topRank h)) (h .turn)) t))) (as-fair d)) (both .1))
+    let both = and-parts (ltb i 64) (cond (some' 64 (due h)) (due h i) (cond (some' 16 (λ (r : ℕ). some' 64 (rankWants h r))) (eqb (suc i) (inTurn (rankWants h (topRank h)) (h .turn))) (leastFar h i))) e in (
+      ltb-true i 64 (both .0),
+      cond-both (some' 64 (due h)) (due h i) (cond (some' 16 (λ (r : ℕ). some' 64 (rankWants h r))) (eqb (suc i) (inTurn (rankWants h (topRank h)) (h .turn))) (leastFar h i)) (λ b. b ≡ true → Takes h i) (λ _. as-due)
+          (λ d. cond-both (some' 16 (λ (r : ℕ). some' 64 (rankWants h r))) (eqb (suc i) (inTurn (rankWants h (topRank h)) (h .turn))) (leastFar h i) (λ b. b ≡ true → Takes h i)
+          (λ _ t. as-fixed d (sym (eqb-true (suc i) (inTurn (rankWants h (topRank h)) (h .turn)) t))) (as-fair d)) (both .1),
+    )
 
 somebodys : (n i : ℕ) (rests k : Bool) (takes : ℕ → Bool) → n ≡ suc i → (cond (eqb n 0) rests (takes (n - 1)) && k) ≡ true → takes i ≡ true
 somebodys n i rests k takes e m =
