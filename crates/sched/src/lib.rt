@@ -4,7 +4,7 @@ ghost use mathlib.Core.Bool.{true, false};
 ghost use Prim.Native.Nat.{ℕ, _<_, _≤_, _+_};
 ghost use lib.Dec.{T};
 ghost use Rattle.sched.specs.House.{House, empty, calls, mayRun, after, goesOn'};
-ghost use Rattle.sched.specs.Promise.{NearEachOther};
+ghost use Rattle.sched.specs.Promise.{NoRings, RowsStand, NearEachOther};
 
 // Reserved: so many ticks of so many. Fixed: rank 0 goes first. Fair: by weight.
 #[derive(Clone, Copy)]
@@ -55,6 +55,19 @@ pub trait World {
     fn runs(&mut self, whose: Option<u32>, runs: u32)
         requires { ⌜ 0 < left (now self) ⌝ ∗ ⌜ T (mayRun (house (now self)) whose runs) ⌝ }
         ensures { λ _. ⌜ house (now (self .exit)) ≡ after (house (now (self .entry))) whose ⌝ ∗ ⌜ left (now (self .exit)) + 1 ≡ left (now (self .entry)) ⌝ };
+}
+
+// What is promised beside, each a theorem that a contract names.
+pub fn no_rings() -> u8
+    ensures { λ _. ⌜ NoRings ⌝ }
+{
+    0
+}
+
+pub fn rows_stand() -> u8
+    ensures { λ _. ⌜ RowsStand ⌝ }
+{
+    0
 }
 
 pub fn near_each_other() -> u8

@@ -1,16 +1,16 @@
 -- The branches of `calls`, split once: what a call may come to, each way with what its tests tell.
 use mathlib.Core.Path.{_≡_, refl}
-use mathlib.Core.Bool.{true, false, not, cond, _||_, false≢true}
+use mathlib.Core.Bool.{Bool, true, false, not, cond, false≢true}
 use mathlib.Core.List.{List, [], _∷_, _++_}
 use Prim.Native.Nat.{ℕ, suc, _+_, _-_, _<_, _≤_}
 use native.Mathlib.Omega.{arith}
-use lib.Dec.{eqb, ltb, leb}
+use lib.Dec.{eqb, ltb}
 use Rattle.std.proofs.shelf.Tests.{cond-both, not-false, and-parts, or-parts, ltb-true, ltb-false, leb-false, eqb-true, eqb-false, ne-eqb}
 use Rattle.sched.specs.declared.Kind.{Kind}
 use Rattle.sched.specs.declared.Call.{Call}
 use Rattle.sched.specs.declared.Call.the-variants.{Make, End, Wake, Sleep, Lock, Unlock}
 use Rattle.sched.specs.declared.Answer.the-variants.{Done, Id}
-use Rattle.sched.specs.House.{House, Place, Nobody, A, Kept, Shut, Out, out, no, put, makes, anew, newAt, some', sum, isNobody, isTask, shareOf, shareOfKind, good, isA, holds, leaves, without, firstOf, restOf, runner, calls}
+use Rattle.sched.specs.House.{House, Place, Nobody, A, Kept, Shut, Out, out, no, put, makes, anew, newAt, sum, isNobody, isTask, shareOf, shareOfKind, good, isA, holds, leaves, without, firstOf, restOf, runner, calls}
 use Rattle.sched.proofs.Bounded.{first-is, first-below}
 
 -- THE HOUSE AFTER EACH CALL THAT IS GRANTED
@@ -66,20 +66,14 @@ nobody (A k) e = absurd (false≢true e)
 nobody (Kept q p) e = absurd (false≢true e)
 
 module _ (h : House) (P : Out → Type 0) (w : Ways h P) where
+  -- a refusal, or what comes after it
+  unless : (b : Bool) (n : ℕ) (o : Out) → (b ≡ false → P o) → P (cond b (no n h) o)
+  unless b n o then = cond-both b (no n h) o P (λ _. w .refused n) then
+
   -- a call that begins by asking whether i is a task
   if-task : (i : ℕ) (o : Out) → (i < 64 → isTask (h .place i) ≡ true → P o) → P (cond (not (isA h i)) (no 4 h) o)
   if-task i o then =
-      cond-both (not (isA h i)) (no 4 h) o P (λ _. w .refused 4)
-      (λ e. let a = and-parts (ltb i 64) (isTask (h .place i)) (not-false (isA h i) e) in then (ltb-true i 64 (a .0)) (a .1))
-
-  -- and then whether it waits
-  unless-waits : (i : ℕ) (o : Out) → (h .waits i ≡ 0 → P o) → P (cond (not (eqb (h .waits i) 0)) (no 9 h) o)
-  unless-waits i o then =
-      cond-both (not (eqb (h .waits i) 0)) (no 9 h) o P (λ _. w .refused 9) (λ e. then (eqb-true (h .waits i) 0 (not-false (eqb (h .waits i) 0) e)))
-
-  -- and whether there is such a lock
-  if-lock : (m : ℕ) (o : Out) → (m < 64 → P o) → P (cond (leb 64 m) (no 1 h) o)
-  if-lock m o then = cond-both (leb 64 m) (no 1 h) o P (λ _. w .refused 1) (λ e. then (leb-false 64 m e))
+      unless (not (isA h i)) 4 o (λ e. let a = and-parts (ltb i 64) (isTask (h .place i)) (not-false (isA h i) e) in then (ltb-true i 64 (a .0)) (a .1))
 
   given-back : (i m : ℕ) → i < 64 → isTask (h .place i) ≡ true → m < 64 → h .waits i ≡ 0 → h .owner m ≡ suc i → (r : List ℕ) → h .row m ≡ r →
       P (out Done (makes h (h .place) (h .awake) (cond (eqb (firstOf r) 0) (h .waits) (put (firstOf r - 1) 0 (h .waits))) (put m (firstOf r) (h .owner)) (put m (restOf r) (h .row)) (h .window) (h .turn)))
@@ -93,27 +87,19 @@ module _ (h : House) (P : Out → Type 0) (w : Ways h P) where
   pub call-ways : (c : Call) → P (calls c h)
   unfolding calls
   call-ways (Make k) =
-      cond-both (not (good k)) (no 1 h) _ P (λ _. w .refused 1) (λ g.
-      cond-both (not (some' 64 (λ (i : ℕ). isNobody (h .place i)))) (no 2 h) _ P (λ _. w .refused 2) (λ s.
-      cond-both (ltb 7560 (sum 64 (λ i. shareOf (h .place i)) + shareOfKind k)) (no 3 h) _ P (λ _. w .refused 3) (λ f.
-      let one = not-false (some' 64 (λ (i : ℕ). isNobody (h .place i))) s in
-      w .make (newAt h) k refl (first-below (λ (i : ℕ). isNobody (h .place i)) 64 one)
-      (nobody (h .place (newAt h)) (first-is (λ (i : ℕ). isNobody (h .place i)) 64 one))
-      (not-false (good k) g) (ltb-false 7560 (sum 64 (λ i. shareOf (h .place i)) + shareOfKind k) f))))
-  call-ways (End i) =
-      if-task i _ (λ l t. unless-waits i _ (λ e. cond-both (holds h i) (no 6 h) _ P (λ _. w .refused 6) (λ f. w .end i l t e f)))
+      unless _ _ _ (λ g. unless _ _ _ (λ s. unless _ _ _ (λ f.
+      let one = not-false _ s in
+      w .make (newAt h) k refl (first-below _ 64 one) (nobody (h .place (newAt h)) (first-is _ 64 one)) (not-false _ g) (ltb-false _ _ f))))
+  call-ways (End i) = if-task i _ (λ l t. unless _ _ _ (λ e. unless _ _ _ (w .end i l t (eqb-true _ _ (not-false _ e)))))
   call-ways (Wake i) = if-task i _ (w .wake i)
-  call-ways (Sleep i) = if-task i _ (λ l t. unless-waits i _ (w .sleep i l t))
+  call-ways (Sleep i) = if-task i _ (λ l t. unless _ _ _ (λ e. w .sleep i l t (eqb-true _ _ (not-false _ e))))
   call-ways (Lock i m) =
-      if-task i _ (λ l t. if-lock m _ (λ l′.
-      cond-both (not (eqb (h .waits i) 0) || not (h .awake i)) (no 9 h) _ P (λ _. w .refused 9) (λ e.
-      let p = or-parts (not (eqb (h .waits i) 0)) (not (h .awake i)) e in
-      let waits : h .waits i ≡ 0 = eqb-true (h .waits i) 0 (not-false (eqb (h .waits i) 0) (p .0)) in
-      let awake : h .awake i ≡ true = not-false (h .awake i) (p .1) in
-      cond-both (eqb (h .owner m) 0) _ _ P (λ o. w .take i m l t l′ waits awake (eqb-true (h .owner m) 0 o)) (λ o.
-      cond-both (eqb (runner 64 h (h .owner m - 1)) i) (no 5 h) _ P (λ _. w .refused 5) (λ r.
-      w .queue i m l t l′ waits awake (eqb-false (h .owner m) 0 o) (eqb-false (runner 64 h (h .owner m - 1)) i r))))))
+      if-task i _ (λ l t. unless _ _ _ (λ l′. unless _ _ _ (λ e.
+      let p = or-parts _ _ e in
+      let free : h .waits i ≡ 0 = eqb-true _ _ (not-false _ (p .0)) in
+      let awake : h .awake i ≡ true = not-false _ (p .1) in
+      cond-both _ _ _ P (λ o. w .take i m l t (leb-false _ _ l′) free awake (eqb-true _ _ o)) (λ o.
+      unless _ _ _ (λ r. w .queue i m l t (leb-false _ _ l′) free awake (eqb-false _ _ o) (eqb-false _ _ r))))))
   call-ways (Unlock i m) =
-      if-task i _ (λ l t. if-lock m _ (λ l′. unless-waits i _ (λ e.
-      cond-both (not (eqb (h .owner m) (suc i))) (no 8 h) _ P (λ _. w .refused 8) (λ o.
-      given-back i m l t l′ e (eqb-true (h .owner m) (suc i) (not-false (eqb (h .owner m) (suc i)) o)) (h .row m) refl))))
+      if-task i _ (λ l t. unless _ _ _ (λ l′. unless _ _ _ (λ e. unless _ _ _ (λ o.
+      given-back i m l t (leb-false _ _ l′) (eqb-true _ _ (not-false _ e)) (eqb-true _ _ (not-false _ o)) (h .row m) refl))))

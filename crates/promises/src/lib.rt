@@ -1,0 +1,16 @@
+// Theorems on the rules in the subject's own words, each a contract.
+ghost use Rattle.promises.specs.Scenes.{ScenesPlay};
+ghost use Rattle.sched.specs.Nearer.{NearerEachOther};
+
+pub fn scenes_play() -> u8
+    ensures { λ _. ⌜ ScenesPlay ⌝ }
+{
+    0
+}
+
+// a·w is at most b·v + 2·v + w, where two fair tasks of weights v and w that want all along had a and b ticks
+pub fn nearer_each_other() -> u8
+    ensures { λ _. ⌜ NearerEachOther ⌝ }
+{
+    0
+}

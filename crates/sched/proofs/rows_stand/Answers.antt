@@ -1,0 +1,5 @@
+use Rattle.sched.proofs.model.Rings.{rows-stand}
+use Rattle.sched.proofs.rows_stand.Needs as need
+
+pub returns : need.returns
+returns c = rows-stand
