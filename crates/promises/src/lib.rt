@@ -1,4 +1,5 @@
 // Theorems on the rules in the subject's own words, each a contract.
+ghost use Rattle.promises.specs.Nearest.{NearestEachOther, EqualsKeepPace};
 ghost use Rattle.promises.specs.Scenes.{ScenesPlay};
 ghost use Rattle.sched.specs.Nearer.{NearerEachOther};
 
@@ -11,6 +12,20 @@ pub fn scenes_play() -> u8
 // a·w is at most b·v + 2·v + w, where two fair tasks of weights v and w that want all along had a and b ticks
 pub fn nearer_each_other() -> u8
     ensures { λ _. ⌜ NearerEachOther ⌝ }
+{
+    0
+}
+
+// and less by whatever divides both weights
+pub fn nearest_each_other() -> u8
+    ensures { λ _. ⌜ NearestEachOther ⌝ }
+{
+    0
+}
+
+// of two of one weight neither is more than two ticks ahead
+pub fn equals_keep_pace() -> u8
+    ensures { λ _. ⌜ EqualsKeepPace ⌝ }
 {
     0
 }

@@ -1,33 +1,33 @@
 -- Of two fair tasks that want all along neither gets far ahead: ticks are counted against how far each has come,
 -- and whoever has a tick was the least far.
-use mathlib.Core.Path.{_≡_, refl, sym, ap, subst, _∙_}
+use mathlib.Core.Path.{_≡_, refl, sym, ap, _∙_}
 use mathlib.Core.Logic.{_⊎_, inl, inr, ⊎-elim}
-use mathlib.Core.Bool.{Bool, true, false, cond, _&&_, _||_, not, true≢false, false≢true}
-use Prim.Native.Nat.{ℕ, zero, suc, _+_, _-_, _*_, _/_, _%_, _<_, _≤_}
+use mathlib.Core.Bool.{Bool, true, false, cond, _&&_, not}
+use Prim.Native.Nat.{ℕ, suc, _+_, _*_, _<_, _≤_}
 use native.Mathlib.Omega.{arith}
-use lib.Dec.{eqb, ltb, leb, T}
-use Rattle.std.proofs.shelf.Tests.{cond-true, cond-false, cond-both, cases-bool, cases-eq, and-parts, and-cases, and-left, not-true, not-false, not-from-true, lt-ltb, eq-eqb, ne-eqb, ltb-true, eqb-true, eqb-false}
+use lib.Dec.{eqb, ltb, T}
+use Rattle.std.proofs.shelf.Tests.{and-parts, and-left, not-true, not-from-true, lt-ltb, ne-eqb, eqb-true, eqb-false}
 use Rattle.std.specs.declared.option.Option.{Option}
 use Rattle.sched.specs.declared.Call.{Call}
 use Rattle.sched.specs.declared.Call.the-variants.{Make, End, Wake, Sleep, Lock, Unlock}
-use Rattle.sched.specs.House.{House, good, sum, shareOf, shareOfKind, isA, holds, leaves, runner, Place, Nobody, A, Kept, Out, no, weightOf, isNobody, some', newAt, fairWants, joins, opened, windowed, ticked, leastFar, goesOn, wraps, freed, passed, calls, after, mayRun, numberOf}
+use Rattle.sched.specs.House.{House, leaves, Nobody, Out, weightOf, fairWants, joins, opened, windowed, ticked, goesOn, passed, calls, after, mayRun, numberOf}
 use Rattle.sched.specs.Promise.{Comes, Together, begins, called, ran, endsNone, mine, NearEachOther}
 use Rattle.sched.specs.Nearer.{NearerEachOther}
-use Rattle.sched.proofs.Tests.{T-true, T-not-false}
+use Rattle.sched.proofs.Tests.{T-true}
 use Rattle.sched.proofs.Puts.{put-else}
-use Rattle.sched.proofs.Bounded.{first-is, first-below}
 use Rattle.sched.proofs.Fractions.{near-le-frac}
-use Rattle.sched.proofs.model.Position.{Position, stepped}
-use Rattle.sched.proofs.model.Positions.{Positions, PositionsOf, partsOf, markParts, positions-come, positions-opened, fair-heavy, least-behind, freed-weight}
+use Rattle.sched.proofs.model.Position.{stepped}
+use Rattle.sched.proofs.model.Positions.{PositionsOf, partsOf, markParts, positions-come, positions-opened, fair-heavy, least-behind, freed-weight}
+use Rattle.sched.proofs.model.CallWays.{EachWay, each-way}
 use Rattle.sched.proofs.model.TakeWays.{run-taken, fair-takes}
 
 -- one tick counted: x and y are how far they are in parts, of weights v and w
 pub record Counted (v w x y a b : ℕ) : Type 0 where
   pub gained : a * w + y * v < b * v + x * w + 2 * v
-  pub bound : a * w ≤ b * v + 2 * v + w
+  pub bound : a * w < b * v + 2 * v + w
 
 -- whoever has the tick goes one part on, and the first has it only if it isn't the farther one
-pub counted-tick : (v w x y a b : ℕ) (m n : Bool) → a * w + y * v < b * v + x * w + 2 * v → a * w ≤ b * v + 2 * v + w → (m ≡ true → x * w ≤ y * v) →
+pub counted-tick : (v w x y a b : ℕ) (m n : Bool) → a * w + y * v < b * v + x * w + 2 * v → a * w < b * v + 2 * v + w → (m ≡ true → x * w ≤ y * v) →
     Counted v w (x + cond m 1 0) (y + cond n 1 0) (a + cond m 1 0) (b + cond n 1 0)
 counted-tick v w x y a b true true g k l = record { gained = omega arith; bound = omega (arith, l refl) }
 counted-tick v w x y a b true false g k l = record { gained = omega arith; bound = omega (arith, l refl) }
@@ -61,43 +61,28 @@ spares-both i j (Sleep m) e = (refl, refl)
 spares-both i j (Lock m l) e = (refl, refl)
 spares-both i j (Unlock m l) e = (refl, refl)
 
-nobody-weightless : (p : Place) → isNobody p ≡ true → weightOf p ≡ 0
-unfolding isNobody weightOf
-nobody-weightless Nobody e = refl
-nobody-weightless (A k) e = absurd (false≢true e)
-nobody-weightless (Kept q p) e = refl
+untouched : (i : ℕ) (h : House) (o : Out) → o .house .place i ≡ h .place i → o .house .far i ≡ h .far i → o .house .rest i ≡ h .rest i → o .house .wanted i ≡ h .wanted i → Untouched i h o
+untouched i h o p f r w = record { place-same = p; far-same = f; rest-same = r; wanted-same = w }
 
-module _ (h : House) (i : ℕ) (heavy : 0 < weightOf (h .place i)) where
-  -- a refusal, or what comes next
-  unless : (b : Bool) (n : ℕ) (x : Out) → (b ≡ false → Untouched i h x) → Untouched i h (cond b (no n h) x)
-  unless b n x next =
-      cond-both b (no n h) x (Untouched i h) (λ _. record { place-same = refl; far-same = refl; rest-same = refl; wanted-same = refl }) next
+spared : (h : House) (i : ℕ) → 0 < weightOf (h .place i) → EachWay h (λ c o. spares i c ≡ true → Untouched i h o)
+unfolding spares weightOf
+spared h i heavy =
+    record {
+      refused = λ n _. untouched i h _ refl refl refl refl;
+      make = λ n k _ _ free _ _ _.
+          let other : eqb i n ≡ false = ne-eqb i n (λ e. let none : 0 < weightOf Nobody = rw (e, free) at heavy in omega arith) in
+          untouched i h _ (rw other refl) (rw other refl) (rw other refl) (rw other refl);
+      end = λ m _ _ _ _ e. untouched i h _ (put-else m (leaves (h .window m) (h .place m)) (h .place) i (λ s. eqb-false m i (not-true (eqb m i) e) (sym s))) refl refl refl;
+      wake = λ m _ _ _. untouched i h _ refl refl refl refl;
+      sleep = λ m _ _ _ _. untouched i h _ refl refl refl refl;
+      take = λ m l _ _ _ _ _ _ _. untouched i h _ refl refl refl refl;
+      queue = λ m l _ _ _ _ _ _ _ _. untouched i h _ refl refl refl refl;
+      free = λ m l _ _ _ _ _ _ _. untouched i h _ refl refl refl refl;
+      pass = λ m l j js _ _ _ _ _ _ _. untouched i h _ refl refl refl refl;
+    }
 
-  new-apart : some' 64 (λ (k : ℕ). isNobody (h .place k)) ≡ true → i ≡ newAt h → ⊥
-  new-apart some e =
-      let free : weightOf (h .place i) ≡ 0 = rw e (nobody-weightless (h .place (newAt h)) (first-is (λ (k : ℕ). isNobody (h .place k)) 64 some)) in
-      omega arith
-
-  pub call-spares : (c : Call) → spares i c ≡ true → Untouched i h (calls c h)
-  unfolding calls spares
-  call-spares (Make k) e =
-      unless (not (good k)) 1 _ (λ _. unless (not (some' 64 (λ (k : ℕ). isNobody (h .place k)))) 2 _ (λ s. unless (ltb 7560 (sum 64 (λ i. shareOf (h .place i)) + shareOfKind k)) 3 _ (λ _.
-      let apart : i ≡ newAt h → ⊥ = new-apart (not-false (some' 64 (λ (k : ℕ). isNobody (h .place k))) s) in
-      let other : eqb i (newAt h) ≡ false = ne-eqb i (newAt h) apart in
-      record { place-same = rw other refl; far-same = rw other refl; rest-same = rw other refl; wanted-same = rw other refl })))
-  call-spares (End m) e =
-      unless (not (isA h m)) 4 _ (λ _. unless (not (eqb (h .waits m) 0)) 9 _ (λ _. unless (holds h m) 6 _ (λ _.
-      record { place-same = put-else m (leaves (h .window m) (h .place m)) (h .place) i (λ s. eqb-false m i (not-true (eqb m i) e) (sym s)); far-same = refl; rest-same = refl; wanted-same = refl })))
-  call-spares (Wake m) e = unless (not (isA h m)) 4 _ (λ _. record { place-same = refl; far-same = refl; rest-same = refl; wanted-same = refl })
-  call-spares (Sleep m) e =
-      unless (not (isA h m)) 4 _ (λ _. unless (not (eqb (h .waits m) 0)) 9 _ (λ _. record { place-same = refl; far-same = refl; rest-same = refl; wanted-same = refl }))
-  call-spares (Lock m l) e =
-      unless (not (isA h m)) 4 _ (λ _. unless (leb 64 l) 1 _ (λ _. unless (not (eqb (h .waits m) 0) || not (h .awake m)) 9 _ (λ _.
-      cond-both (eqb (h .owner l) 0) _ _ (Untouched i h) (λ _. record { place-same = refl; far-same = refl; rest-same = refl; wanted-same = refl })
-      (λ _. unless (eqb (runner 64 h (h .owner l - 1)) m) 5 _ (λ _. record { place-same = refl; far-same = refl; rest-same = refl; wanted-same = refl })))))
-  call-spares (Unlock m l) e =
-      unless (not (isA h m)) 4 _ (λ _. unless (leb 64 l) 1 _ (λ _. unless (not (eqb (h .waits m) 0)) 9 _ (λ _. unless (not (eqb (h .owner l) (suc m))) 8 _ (λ _.
-      record { place-same = refl; far-same = refl; rest-same = refl; wanted-same = refl }))))
+pub call-spares : (h : House) (i : ℕ) → 0 < weightOf (h .place i) → (c : Call) → spares i c ≡ true → Untouched i h (calls c h)
+call-spares h i heavy c e = each-way h (λ c o. spares i c ≡ true → Untouched i h o) (spared h i heavy) c e
 
 -- TICKS
 and-middle : (a b c : Bool) → b ≡ false → (a && b && c) ≡ false
@@ -155,9 +140,9 @@ module _ (i j : ℕ) (h : House) (at : PositionsOf h) (a b : ℕ) where
       rw e (omega arith)
   gained-opened wi wj (inr r) = rw (parts-opened h i (r .wanted-i), parts-opened h j (r .wanted-j)) (r .counted .gained)
 
-  bound-so-far : (a ≡ 0) ⊎ Running i j h a b → a * weightOf (h .place j) ≤ b * weightOf (h .place i) + 2 * weightOf (h .place i) + weightOf (h .place j)
-  bound-so-far (inl e) = rw e (omega arith)
-  bound-so-far (inr r) = r .counted .bound
+  pub bound-so-far : 0 < weightOf (h .place i) → (a ≡ 0) ⊎ Running i j h a b → a * weightOf (h .place j) < b * weightOf (h .place i) + 2 * weightOf (h .place i) + weightOf (h .place j)
+  bound-so-far heavy (inl e) = rw e (omega arith)
+  bound-so-far heavy (inr r) = r .counted .bound
 
   pub running-after : (t : Option ℕ) (k : ℕ) → T (mayRun h t k) → fairWants (opened h) i ≡ true → fairWants (opened h) j ≡ true → (a ≡ 0) ⊎ Running i j h a b → Running i j (after h t) (a + mine i t) (b + mine j t)
   running-after t k m wi wj so-far =
@@ -166,7 +151,7 @@ module _ (i j : ℕ) (h : House) (at : PositionsOf h) (a b : ℕ) where
       let heavy-j = fair-heavy (opened h) j wj in
       let least : eqb (numberOf t) (suc i) ≡ true → partsOf (opened h) i * weightOf (h .place j) ≤ partsOf (opened h) j * weightOf (h .place i) = λ e.
       least-behind (opened h) opens i j (fair-takes (opened h) i (run-taken h t k i m (eqb-true (numberOf t) (suc i) e) .1) heavy-i) wj in
-      let count = counted-tick (weightOf (h .place i)) (weightOf (h .place j)) (partsOf (opened h) i) (partsOf (opened h) j) a b (eqb (numberOf t) (suc i)) (eqb (numberOf t) (suc j)) (gained-opened wi wj so-far) (bound-so-far so-far) least in
+      let count = counted-tick (weightOf (h .place i)) (weightOf (h .place j)) (partsOf (opened h) i) (partsOf (opened h) j) a b (eqb (numberOf t) (suc i)) (eqb (numberOf t) (suc j)) (gained-opened wi wj so-far) (bound-so-far heavy-i so-far) least in
       let same : (n : ℕ) → weightOf (after h t .place n) ≡ weightOf (h .place n) = λ n. freed-weight (passed (eqb (numberOf t) (suc n)) (opened h .window n)) (h .place n) in
       record {
         heavy-i = rw (same i) heavy-i;
@@ -192,8 +177,14 @@ together-running i j (ran {h} {a} {b} t k s m w) =
     let both = and-parts (fairWants (opened h) i) (fairWants (opened h) j) (T-true _ w) in
     inr (running-after i j h (positions-come (together-comes s)) a b t k m (both .0) (both .1) (together-running i j s))
 
+-- strictly, and so less by whatever divides both weights
+pub strictly-nearer : (i j : ℕ) (h : House) (a b : ℕ) → Together i j h a b → 0 < weightOf (h .place i) →
+    a * weightOf (h .place j) < b * weightOf (h .place i) + 2 * weightOf (h .place i) + weightOf (h .place j)
+strictly-nearer i j h a b s heavy = bound-so-far i j h (positions-come (together-comes s)) a b heavy (together-running i j s)
+
 pub nearer-each-other : NearerEachOther
-nearer-each-other i j h a b s = bound-so-far i j h (positions-come (together-comes s)) a b (together-running i j s)
+nearer-each-other i j h a b s =
+    ⊎-elim (λ e. rw e (omega arith)) (λ r. omega (arith, r .counted .bound)) (together-running i j s)
 
 pub near-each-other : NearEachOther
 near-each-other i j h a b s = omega (arith, nearer-each-other i j h a b s)

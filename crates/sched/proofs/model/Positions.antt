@@ -1,18 +1,18 @@
 -- How far all fair tasks are, kept by every call and every tick: what fairness rests on.
-use mathlib.Core.Path.{_≡_, refl, sym, ap, subst, _∙_}
+use mathlib.Core.Path.{_≡_, refl, sym, _∙_}
 use mathlib.Core.Logic.{_⊎_, inl, inr, ⊎-elim}
-use mathlib.Core.Bool.{Bool, true, false, cond, _&&_, _||_, not, true≢false, false≢true}
-use Prim.Native.Nat.{ℕ, zero, suc, _+_, _-_, _*_, _/_, _%_, _<_, _≤_}
+use mathlib.Core.Bool.{Bool, true, false, cond, _&&_, not}
+use Prim.Native.Nat.{ℕ, suc, _+_, _-_, _*_, _/_, _%_, _<_, _≤_}
 use native.Mathlib.Nat.{le-refl, le-of-lt}
 use native.Mathlib.Omega.{arith}
-use lib.Dec.{eqb, ltb, leb, T}
-use Rattle.std.proofs.shelf.Tests.{cond-true, cond-false, cond-both, cases-bool, cases-eq, and-parts, and-cases, not-true, not-false, lt-ltb, eq-eqb, ne-eqb, ltb-true, eqb-true}
-use Rattle.sched.specs.House.{House, Place, Nobody, A, Kept, Window, Shut, Open, lessFar, weightOf, empty, put, makes, leaves, isReserved, runner, wants, fairWants, joins, joined, windowed, opened, leastFar, nearer, some', first', moves, goesOn, wraps, freed, passed, ticked, calls, quotaOf, periodOf, after, mayRun, numberOf}
+use lib.Dec.{eqb, ltb, T}
+use Rattle.std.proofs.shelf.Tests.{cond-both, cases-bool, cases-eq, and-parts, not-true, lt-ltb, eq-eqb, ne-eqb, ltb-true, eqb-true}
+use Rattle.sched.specs.House.{House, Place, Nobody, A, Kept, Window, Shut, Open, lessFar, weightOf, empty, put, leaves, isReserved, wants, fairWants, joins, joined, windowed, opened, leastFar, nearer, some', first', moves, goesOn, freed, passed, ticked, calls, quotaOf, periodOf, after, mayRun, numberOf}
 use Rattle.sched.specs.Promise.{Comes, begin, called, ran}
 use Rattle.sched.specs.declared.Call.{Call}
 use Rattle.std.specs.declared.option.Option.{Option}
 use Rattle.sched.proofs.Puts.{put-else, put-both}
-use Rattle.sched.proofs.Bounded.{some-from, none-at, first-is, first-below}
+use Rattle.sched.proofs.Bounded.{some-from, none-at, first-is}
 use Rattle.sched.proofs.Fractions.{le-trans-frac}
 use Rattle.sched.proofs.model.TakeWays.{runner-same, run-taken, fair-takes}
 use Rattle.sched.proofs.model.CallWays.{Ways, call-ways}

@@ -1,17 +1,15 @@
 -- Whose a tick may be, split once: one that is due, the fixed one whose turn it is, or a fair one that is least far.
-use mathlib.Core.Path.{_≡_, refl, sym, subst, _∙_}
-use mathlib.Core.Logic.{_⊎_, inl, inr, ⊎-elim}
-use mathlib.Core.Bool.{Bool, true, false, cond, _&&_, true≢false, false≢true}
+use mathlib.Core.Path.{_≡_, refl, sym}
+use mathlib.Core.Bool.{Bool, true, false, cond, _&&_, false≢true}
 use mathlib.Core.List.{List, [], _∷_}
 use Prim.Native.Nat.{ℕ, zero, suc, _-_, _<_}
 use native.Mathlib.Omega.{arith}
 use lib.Dec.{eqb, ltb, T}
 use Rattle.std.proofs.shelf.Tests.{cond-both, and-parts, ne-eqb, ltb-true, eqb-true}
 use Rattle.std.specs.declared.option.Option.{Option}
-use Rattle.sched.specs.House.{House, Place, Nobody, A, Kept, isReserved, isFixed, rankOf, weightOf, some', due, rankWants, topRank, inTurn, leastFar, runner, wants, fairWants, joined, windowed, opened, mayTake, mayRest, mayRun, kept, numberOf}
-use Rattle.sched.specs.declared.Kind.{Kind}
+use Rattle.sched.specs.House.{House, Place, Nobody, A, Kept, isReserved, isFixed, rankOf, weightOf, some', due, rankWants, topRank, inTurn, leastFar, runner, wants, opened, mayTake, mayRest, mayRun, kept, numberOf}
 use Rattle.sched.specs.declared.Kind.the-variants.{Reserved, Fixed, Fair}
-use Rattle.sched.proofs.Tests.{T-true, and-left-T, and-right-T}
+use Rattle.sched.proofs.Tests.{T-true}
 
 -- who has the tick, with why
 pub data Takes (h : House) (i : ℕ) : Type 0 where
