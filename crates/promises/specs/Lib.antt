@@ -1,6 +1,7 @@
 pub mod Admission
 pub mod Idle
 pub mod Lending
-pub mod Scenes
-pub mod Reserved
+pub mod Nearest
 pub mod Quarter
+pub mod Reserved
+pub mod Scenes

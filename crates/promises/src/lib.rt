@@ -2,9 +2,11 @@
 ghost use Rattle.promises.specs.Admission.{Admits};
 ghost use Rattle.promises.specs.Idle.{IdleOnlyIfUnwanted};
 ghost use Rattle.promises.specs.Lending.{Lends};
-ghost use Rattle.promises.specs.Scenes.{ScenesPlay};
-ghost use Rattle.promises.specs.Reserved.{ReservedHas};
+ghost use Rattle.promises.specs.Nearest.{NearestEachOther, EqualsKeepPace};
 ghost use Rattle.promises.specs.Quarter.{QuarterLeft};
+ghost use Rattle.promises.specs.Reserved.{ReservedHas};
+ghost use Rattle.promises.specs.Scenes.{ScenesPlay};
+ghost use Rattle.sched.specs.Nearer.{NearerEachOther};
 
 // Who runs in a task's tick is one to whom it lends it, and the tick counts for the task.
 pub fn lends() -> u8
@@ -44,6 +46,27 @@ pub fn reserved_has() -> u8
 // A quarter is left to fair tasks, less a constant, as long as no fixed one wants anything.
 pub fn quarter_left() -> u8
     ensures { λ _. ⌜ QuarterLeft ⌝ }
+{
+    0
+}
+
+// a·w is at most b·v + 2·v + w, where two fair tasks of weights v and w that want all along had a and b ticks.
+pub fn nearer_each_other() -> u8
+    ensures { λ _. ⌜ NearerEachOther ⌝ }
+{
+    0
+}
+
+// And less by whatever divides both weights.
+pub fn nearest_each_other() -> u8
+    ensures { λ _. ⌜ NearestEachOther ⌝ }
+{
+    0
+}
+
+// Of two of one weight neither is more than two ticks ahead.
+pub fn equals_keep_pace() -> u8
+    ensures { λ _. ⌜ EqualsKeepPace ⌝ }
 {
     0
 }

@@ -1,10 +1,14 @@
 pub mod CallWays
+pub mod Fairness
 pub mod Kinds
 pub mod Places
+pub mod Position
+pub mod Positions
 pub mod Quotas
 pub mod Rings
 pub mod Runner
 pub mod Shares
 pub mod Stands
+pub mod TakeWays
 pub mod Ticks
 pub mod Windows

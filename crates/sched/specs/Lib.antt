@@ -1,6 +1,7 @@
-pub mod House
-pub mod Promise
-pub mod Windows
-pub mod Policy
 pub mod Demand
+pub mod House
+pub mod Nearer
+pub mod Policy
+pub mod Promise
 pub mod Quotas
+pub mod Windows

@@ -4,7 +4,7 @@ ghost use mathlib.Core.Bool.{true, false};
 ghost use Prim.Native.Nat.{ℕ, _<_, _≤_, _+_};
 ghost use lib.Dec.{T};
 ghost use Rattle.sched.specs.House.{House, empty, calls, mayRun, after, goesOn'};
-ghost use Rattle.sched.specs.Promise.{NoRings, RowsStand, SharesFit};
+ghost use Rattle.sched.specs.Promise.{NoRings, SharesFit, RowsStand, NearEachOther};
 ghost use Rattle.sched.specs.Windows.{WindowsWellFormed};
 ghost use Rattle.sched.specs.Policy.{QuotasHad};
 
@@ -144,8 +144,14 @@ pub fn no_rings() -> u8
     0
 }
 
-pub fn rows_stand() -> u8
-    ensures { λ _. ⌜ RowsStand ⌝ }
+pub fn shares_fit() -> u8
+    ensures { λ _. ⌜ SharesFit ⌝ ∗ ⌜ RowsStand ⌝ }
+{
+    0
+}
+
+pub fn near_each_other() -> u8
+    ensures { λ _. ⌜ NearEachOther ⌝ }
 {
     0
 }
@@ -157,13 +163,7 @@ pub fn windows_well_formed() -> u8
     0
 }
 
-pub fn shares_within() -> u8
-    ensures { λ _. ⌜ SharesFit ⌝ }
-{
-    0
-}
-
-// Under the policy, whole windows first and of these the earliest end, quotas are had.
+// Whole windows first, the earliest end first: then every window that was whole to its end has had its quota.
 pub fn quotas_had() -> u8
     ensures { λ _. ⌜ QuotasHad ⌝ }
 {
