@@ -1,2 +1,5 @@
-pub mod Reserved
+pub mod Admission
+pub mod Idle
+pub mod Lending
 pub mod Quarter
+pub mod Reserved

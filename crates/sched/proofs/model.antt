@@ -1,7 +1,10 @@
 pub mod CallWays
-pub mod Windows
-pub mod Shares
+pub mod Kinds
+pub mod Places
 pub mod Quotas
-pub mod Stands
-pub mod Runner
 pub mod Rings
+pub mod Runner
+pub mod Shares
+pub mod Stands
+pub mod Ticks
+pub mod Windows

@@ -8,6 +8,26 @@ ghost use Rattle.sched.specs.Promise.{NoRings, RowsStand, SharesFit};
 ghost use Rattle.sched.specs.Windows.{WindowsWellFormed};
 ghost use Rattle.sched.specs.Policy.{QuotasHad};
 
+mod calls;
+mod class;
+mod fair;
+mod fixed;
+mod locks;
+mod promise;
+mod refusal;
+mod reserved;
+mod tasks;
+mod tick;
+mod wants;
+
+use fair::Fair;
+use fixed::Fixed;
+use locks::Locks;
+use reserved::Reserved;
+use tasks::Tasks;
+use quantities::ids::TaskId;
+use wants::Wants;
+
 // Reserved: so many ticks of so many. Fixed: rank 0 goes first. Fair: by weight.
 #[derive(Clone, Copy)]
 pub enum Kind {
@@ -57,6 +77,64 @@ pub trait World {
     fn runs(&mut self, whose: Option<u32>, runs: u32)
         requires { ⌜ 0 < left (now self) ⌝ ∗ ⌜ T (mayRun (house (now self)) whose runs) ⌝ }
         ensures { λ _. ⌜ house (now (self .exit)) ≡ after (house (now (self .entry))) whose ⌝ ∗ ⌜ left (now (self .exit)) + 1 ≡ left (now (self .entry)) ⌝ };
+}
+
+// What the scheduler knows: who is there and awake, the locks, and what each kind of promise keeps of its own.
+#[derive(Drop)]
+pub struct Scheduler {
+    tasks: Tasks,
+    locks: Locks,
+    reserved: Reserved,
+    fixed: Fixed,
+    fair: Fair,
+}
+
+impl Scheduler {
+    // No task, no lock held.
+    pub fn new() -> Scheduler {
+        Scheduler {
+            tasks: Tasks::new(),
+            locks: Locks::new(),
+            reserved: Reserved::new(),
+            fixed: Fixed::new(),
+            fair: Fair::new(),
+        }
+    }
+
+    // A call, and its answer.
+    pub fn call(&mut self, c: Call) -> Answer {
+        match c {
+            Call::Make(kind) => self.make(kind),
+            Call::End(i) => self.end(i),
+            Call::Wake(i) => self.wake(i),
+            Call::Sleep(i) => self.sleep(i),
+            Call::Lock(i, m) => self.lock(i, m),
+            Call::Unlock(i, m) => self.unlock(i, m),
+        }
+    }
+
+    // Whose the next tick is, and who runs in it.
+    pub fn pick(&mut self) -> (Option<u32>, u32) {
+        let wants = Wants::now(&self.tasks, &self.locks);
+        self.begin(&wants);
+        let whose = self.choose(&wants);
+        self.pass(whose);
+        self.named(whose)
+    }
+
+    // By their numbers: whose the tick is, and its runner.
+    fn named(&self, whose: Option<TaskId>) -> (Option<u32>, u32) {
+        match whose {
+            Some(i) => (Some(i.number()), self.locks.runner(i).number()),
+            None => (None, 0),
+        }
+    }
+}
+
+pub fn scheduler_is_small() -> bool
+    ensures { λ r. ⌜ T r ⌝ }
+{
+    std::mem::size_of::<Scheduler>() <= 65536
 }
 
 // What is promised beside, each a theorem that a contract names.

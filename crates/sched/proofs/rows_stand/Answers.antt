@@ -1,3 +1,4 @@
+-- The theorem stands in model/Rings.
 use Rattle.sched.proofs.model.Rings.{rows-stand}
 use Rattle.sched.proofs.rows_stand.Needs as need
 
