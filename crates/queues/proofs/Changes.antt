@@ -7,7 +7,8 @@ use Prim.Native.Nat.{ℕ, _≤_, _<_}
 use Rattle.std.proofs.shelf.Tests.{cases-eq, eq-eqb, ne-eqb}
 use Rattle.queues.specs.declared.fifo.Queues.{Queues}
 use Rattle.queues.specs.Members.{Member, Free, times, rest, without, put}
-use Rattle.queues.specs.Rings.{Holds, appended, unlinked}
+use Rattle.queues.specs.Rings.{Holds}
+use Rattle.queues.specs.Writes.{appended, unlinked}
 use Rattle.queues.specs.Outcomes.{Pushed, Removed, Moved}
 use Rattle.queues.proofs.Lists.{first-once, without-none, not-without, member-without}
 use Rattle.queues.proofs.Standing.{in-one, holds-same}

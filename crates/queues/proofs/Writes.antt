@@ -12,7 +12,8 @@ use Rattle.std.proofs.shelf.Tests.{cases-eq, cases-lt, lt-ltb, le-ltb}
 use Rattle.queues.specs.declared.fifo.Link.{Link}
 use Rattle.queues.specs.declared.fifo.Ends.{Ends}
 use Rattle.queues.specs.declared.fifo.Queues.{Queues}
-use Rattle.queues.specs.Rings.{linkOf, endsOf, placeOf, after, before, Linked, setLink, setEnds, setAfter, setBefore, setPlace, joined}
+use Rattle.queues.specs.Rings.{linkOf, endsOf, placeOf, after, before, Linked}
+use Rattle.queues.specs.Writes.{setLink, setEnds, setAfter, setBefore, setPlace, joined}
 
 -- a write leaves alone what it writes as it was
 field-kept : {X : Type 0} {Y : Type 0} (g : X → Y) (xs : List X) (i j : ℕ) (x d : X) → g x ≡ g (getD xs i d) → g (getD (set xs i x) j d) ≡ g (getD xs j d)
