@@ -20,7 +20,8 @@ First xs r = BySome r (xs ≡ []) (λ t. xs ≡ (t .index ∷ rest xs))
 abbrev pub StandsIn : (ℕ → List ℕ) → ℕ → Option QueueId → Type 0
 StandsIn f i r = BySome r (Free f i) (λ q. Member i (f (q .index)) × ((p : ℕ) → Member i (f p) → p ≡ q .index))
 
--- i is put last in q if it stood in no queue: t is what s became, and r the answer
+-- The state stood for f and is now t, and r is the answer.
+-- i is put last in q, unless it stood in a queue
 pub record Pushed (t : Queues) (f : ℕ → List ℕ) (q i : ℕ) (r : Bool) : Type 0 where
   pub free : Free f i → r ≡ true
   pub stood : (p : ℕ) → Member i (f p) → r ≡ false

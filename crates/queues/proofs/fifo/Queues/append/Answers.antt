@@ -1,6 +1,6 @@
 -- Behind the last, then in front of 64, and then the place is written.
 use mathlib.Core.Path.{_≡_, refl, sym, ap, _∙_}
-use Prim.Native.Nat.{ℕ, _≤_}
+use Prim.Native.Nat.{ℕ}
 use native.Mathlib.Omega.{arith}
 use Rattle.queues.specs.declared.fifo.Queues.{Queues}
 use Rattle.queues.specs.Rings.{endsOf, before}
