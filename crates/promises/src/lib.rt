@@ -1,4 +1,5 @@
 // Theorems on the rules in the subject's own words, each a contract.
+ghost use Rattle.promises.specs.InTurn.{InTurn};
 ghost use Rattle.promises.specs.Nearest.{NearestEachOther, EqualsKeepPace};
 ghost use Rattle.promises.specs.Scenes.{ScenesPlay};
 ghost use Rattle.sched.specs.Nearer.{NearerEachOther};
@@ -26,6 +27,13 @@ pub fn nearest_each_other() -> u8
 // of two of one weight neither is more than two ticks ahead
 pub fn equals_keep_pace() -> u8
     ensures { λ _. ⌜ EqualsKeepPace ⌝ }
+{
+    0
+}
+
+// of fixed tasks that want the tick it is the first rank's, and in it who went without longest has it
+pub fn in_turn() -> u8
+    ensures { λ _. ⌜ InTurn ⌝ }
 {
     0
 }
