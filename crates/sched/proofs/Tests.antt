@@ -44,6 +44,11 @@ pub or-cases-T : (a b : Bool) → T (a || b) → T a ⊎ T b
 or-cases-T true b t = inl tt
 or-cases-T false b t = inr t
 
+pub and-three : (a b c : Bool) → (a && b && c) ≡ true → (a ≡ true) × (b ≡ true) × (c ≡ true)
+and-three true true c e = (refl, refl, e)
+and-three true false c e = absurd (false≢true e)
+and-three false b c e = absurd (false≢true e)
+
 -- two tests that each imply the other are one
 pub same-test : (a b : Bool) → (a ≡ true → b ≡ true) → (b ≡ true → a ≡ true) → a ≡ b
 same-test true b f g = sym (f refl)

@@ -1,3 +1,7 @@
+pub mod Demand
 pub mod House
-pub mod Promise
 pub mod Nearer
+pub mod Policy
+pub mod Promise
+pub mod Quotas
+pub mod Windows

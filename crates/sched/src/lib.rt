@@ -4,7 +4,29 @@ ghost use mathlib.Core.Bool.{true, false};
 ghost use Prim.Native.Nat.{ℕ, _<_, _≤_, _+_};
 ghost use lib.Dec.{T};
 ghost use Rattle.sched.specs.House.{House, empty, calls, mayRun, after, goesOn'};
-ghost use Rattle.sched.specs.Promise.{NoRings, RowsStand, NearEachOther};
+ghost use Rattle.sched.specs.Promise.{NoRings, SharesFit, RowsStand, NearEachOther};
+ghost use Rattle.sched.specs.Windows.{WindowsWellFormed};
+ghost use Rattle.sched.specs.Policy.{QuotasHad};
+
+mod calls;
+mod class;
+mod fair;
+mod fixed;
+mod locks;
+mod promise;
+mod refusal;
+mod reserved;
+mod tasks;
+mod tick;
+mod wants;
+
+use fair::Fair;
+use fixed::Fixed;
+use locks::Locks;
+use quantities::ids::TaskId;
+use reserved::Reserved;
+use tasks::Tasks;
+use wants::Wants;
 
 // Reserved: so many ticks of so many. Fixed: rank 0 goes first. Fair: by weight.
 #[derive(Clone, Copy)]
@@ -57,6 +79,64 @@ pub trait World {
         ensures { λ _. ⌜ house (now (self .exit)) ≡ after (house (now (self .entry))) whose ⌝ ∗ ⌜ left (now (self .exit)) + 1 ≡ left (now (self .entry)) ⌝ };
 }
 
+// What the scheduler knows: who is there and awake, the locks, and what each kind of promise keeps of its own.
+#[derive(Drop)]
+pub struct Scheduler {
+    tasks: Tasks,
+    locks: Locks,
+    reserved: Reserved,
+    fixed: Fixed,
+    fair: Fair,
+}
+
+impl Scheduler {
+    // No task, no lock held.
+    pub fn new() -> Scheduler {
+        Scheduler {
+            tasks: Tasks::new(),
+            locks: Locks::new(),
+            reserved: Reserved::new(),
+            fixed: Fixed::new(),
+            fair: Fair::new(),
+        }
+    }
+
+    // A call, and its answer.
+    pub fn call(&mut self, c: Call) -> Answer {
+        match c {
+            Call::Make(kind) => self.make(kind),
+            Call::End(i) => self.end(i),
+            Call::Wake(i) => self.wake(i),
+            Call::Sleep(i) => self.sleep(i),
+            Call::Lock(i, m) => self.lock(i, m),
+            Call::Unlock(i, m) => self.unlock(i, m),
+        }
+    }
+
+    // Whose the next tick is, and who runs in it.
+    pub fn pick(&mut self) -> (Option<u32>, u32) {
+        let wants = Wants::now(&self.tasks, &self.locks);
+        self.begin(&wants);
+        let whose = self.choose(&wants);
+        self.pass(whose);
+        self.named(whose)
+    }
+
+    // By their numbers: whose the tick is, and its runner.
+    fn named(&self, whose: Option<TaskId>) -> (Option<u32>, u32) {
+        match whose {
+            Some(i) => (Some(i.number()), self.locks.runner(i).number()),
+            None => (None, 0),
+        }
+    }
+}
+
+pub fn scheduler_is_small() -> bool
+    ensures { λ r. ⌜ T r ⌝ }
+{
+    std::mem::size_of::<Scheduler>() <= 65536
+}
+
 // What is promised beside, each a theorem that a contract names.
 pub fn no_rings() -> u8
     ensures { λ _. ⌜ NoRings ⌝ }
@@ -64,14 +144,28 @@ pub fn no_rings() -> u8
     0
 }
 
-pub fn rows_stand() -> u8
-    ensures { λ _. ⌜ RowsStand ⌝ }
+pub fn shares_fit() -> u8
+    ensures { λ _. ⌜ SharesFit ⌝ ∗ ⌜ RowsStand ⌝ }
 {
     0
 }
 
 pub fn near_each_other() -> u8
     ensures { λ _. ⌜ NearEachOther ⌝ }
+{
+    0
+}
+
+// Windows are open only for a reservation or a kept share, within its period and its quota.
+pub fn windows_well_formed() -> u8
+    ensures { λ _. ⌜ WindowsWellFormed ⌝ }
+{
+    0
+}
+
+// Whole windows first, the earliest end first: then every window that was whole to its end has had its quota.
+pub fn quotas_had() -> u8
+    ensures { λ _. ⌜ QuotasHad ⌝ }
 {
     0
 }

@@ -1,6 +1,6 @@
 -- The branches of `calls`, split once: what a call may come to, each way with what its tests tell.
 use mathlib.Core.Path.{_≡_, refl}
-use mathlib.Core.Bool.{Bool, true, false, not, cond, false≢true}
+use mathlib.Core.Bool.{Bool, true, false, not, cond}
 use mathlib.Core.List.{List, [], _∷_, _++_}
 use Prim.Native.Nat.{ℕ, suc, _+_, _-_, _<_, _≤_}
 use native.Mathlib.Omega.{arith}
@@ -10,7 +10,8 @@ use Rattle.sched.specs.declared.Kind.{Kind}
 use Rattle.sched.specs.declared.Call.{Call}
 use Rattle.sched.specs.declared.Call.the-variants.{Make, End, Wake, Sleep, Lock, Unlock}
 use Rattle.sched.specs.declared.Answer.the-variants.{Done, Id}
-use Rattle.sched.specs.House.{House, Place, Nobody, A, Kept, Shut, Out, out, no, put, makes, anew, newAt, sum, isNobody, isTask, shareOf, shareOfKind, good, isA, holds, leaves, without, firstOf, restOf, runner, calls}
+use Rattle.sched.specs.House.{House, Nobody, A, Shut, Out, out, no, put, makes, anew, newAt, sum, isTask, shareOf, shareOfKind, good, isA, holds, leaves, without, firstOf, restOf, runner, calls}
+use Rattle.sched.proofs.model.Places.{is-nobody}
 use Rattle.sched.proofs.Bounded.{first-is, first-below}
 
 -- THE HOUSE AFTER EACH CALL THAT IS GRANTED
@@ -63,12 +64,6 @@ pub record EachWay (h : House) (P : Call → Out → Type 0) : Type 0 where
 abbrev pub Ways : House → (Out → Type 0) → Type 0
 Ways h P = EachWay h (λ _ o. P o)
 
-nobody : (p : Place) → isNobody p ≡ true → p ≡ Nobody
-unfolding isNobody
-nobody Nobody e = refl
-nobody (A k) e = absurd (false≢true e)
-nobody (Kept q p) e = absurd (false≢true e)
-
 module _ (h : House) (P : Call → Out → Type 0) (w : EachWay h P) where
   -- a refusal, or what comes after it
   unless : {c : Call} (b : Bool) (n : ℕ) (o : Out) → (b ≡ false → P c o) → P c (cond b (no n h) o)
@@ -93,7 +88,7 @@ module _ (h : House) (P : Call → Out → Type 0) (w : EachWay h P) where
   each-way (Make k) =
       unless _ _ _ (λ g. unless _ _ _ (λ s. unless _ _ _ (λ f.
       let one = not-false _ s in
-      w .make (newAt h) k refl (first-below _ 64 one) (nobody (h .place (newAt h)) (first-is _ 64 one)) (not-false _ g) (ltb-false _ _ f))))
+      w .make (newAt h) k refl (first-below _ 64 one) (is-nobody (h .place (newAt h)) (first-is _ 64 one)) (not-false _ g) (ltb-false _ _ f))))
   each-way (End i) = if-task i _ (λ l t. unless _ _ _ (λ e. unless _ _ _ (w .end i l t (eqb-true _ _ (not-false _ e)))))
   each-way (Wake i) = if-task i _ (w .wake i)
   each-way (Sleep i) = if-task i _ (λ l t. unless _ _ _ (λ e. w .sleep i l t (eqb-true _ _ (not-false _ e))))

@@ -12,8 +12,8 @@ use Rattle.sched.proofs.Tests.{T-true, true-T}
 use Rattle.sched.proofs.Puts.{put-both}
 use Rattle.sched.proofs.Bounded.{none-at}
 use Rattle.sched.proofs.model.CallWays.{Ways, call-ways}
-use Rattle.sched.proofs.model.Stands.{in-no-row, free-row, keeps-tasks, leaves-place, takes-lock, frees-lock, passes-lock}
-use Rattle.sched.proofs.model.Runner.{Standing, runner-free, runner-runner, runner-owner, queues-lock}
+use Rattle.sched.proofs.model.Stands.{Waiter, Holder, in-no-row, free-row, keeps-tasks, leaves-place, takes-lock, frees-lock, passes-lock}
+use Rattle.sched.proofs.model.Runner.{Standing, Free, runner-free, runner-runner, runner-owner, queues-lock}
 
 nobody-waits : Standing empty
 unfolding times
@@ -78,11 +78,11 @@ rows-stand h r i m l l′ = comes-stands r .once i m
 -- What follows, for whoever knows that h can have come about.
 module _ (h : House) (r : Comes h) where
   -- an owner is a task
-  pub owner-is-task : (m j : ℕ) → h .owner m ≡ suc j → (m < 64) × (j < 64) × (isTask (h .place j) ≡ true)
+  pub owner-is-task : (m j : ℕ) → h .owner m ≡ suc j → Holder (h .place) m j
   owner-is-task = comes-stands r .holder
 
   -- who waits is a task, and what it waits for has an owner
-  pub waiter-is-task : (i m : ℕ) → h .waits i ≡ suc m → (i < 64) × (isTask (h .place i) ≡ true) × (h .owner m ≡ 0 → ⊥)
+  pub waiter-is-task : (i m : ℕ) → h .waits i ≡ suc m → Waiter (h .place) (h .owner) i m
   waiter-is-task = comes-stands r .waiter
 
   pub unowned-row-empty : (m : ℕ) → h .owner m ≡ 0 → h .row m ≡ []
@@ -91,7 +91,7 @@ module _ (h : House) (r : Comes h) where
   pub stands-in-no-row : (i m : ℕ) → h .waits i ≡ 0 → times i (h .row m) ≡ 0
   stands-in-no-row = in-no-row (h .place) (h .waits) (h .owner) (h .row) (comes-stands r)
 
-  pub runner-is-free : (i : ℕ) → i < 64 → isTask (h .place i) ≡ true → (h .waits (runner 64 h i) ≡ 0) × (isTask (h .place (runner 64 h i)) ≡ true) × (runner 64 h i < 64)
+  pub runner-is-free : (i : ℕ) → i < 64 → isTask (h .place i) ≡ true → Free h (runner 64 h i)
   runner-is-free = runner-free h (comes-stands r)
 
   pub runner-of-runner : (i : ℕ) → i < 64 → isTask (h .place i) ≡ true → runner 64 h (runner 64 h i) ≡ runner 64 h i

@@ -12,7 +12,7 @@ use Rattle.std.proofs.shelf.Ways.{tells}
 use Rattle.sched.specs.House.{House, put, sum, isTask, runner}
 use Rattle.sched.specs.Promise.{times}
 use Rattle.sched.proofs.Puts.{put-both}
-use Rattle.sched.proofs.model.Stands.{Stands, times-push, in-no-row, owner-of}
+use Rattle.sched.proofs.model.Stands.{Stands, Waiter, times-push, in-no-row, owner-of}
 
 -- of the first n places, those with a rank below r
 abbrev lower : (ℕ → ℕ) → ℕ → ℕ → ℕ
@@ -42,6 +42,10 @@ module _ (rank : ℕ → ℕ) where
 abbrev pub Standing : House → Type 0
 Standing h = Stands (h .place) (h .waits) (h .owner) (h .row)
 
+-- j waits for nothing, and is a task
+abbrev pub Free : House → ℕ → Type 0
+Free h j = (h .waits j ≡ 0) × (isTask (h .place j) ≡ true) × (j < 64)
+
 module _ (h : House) where
   pub runner-self : (n i : ℕ) → h .waits i ≡ 0 → runner n h i ≡ i
   unfolding runner
@@ -53,6 +57,13 @@ module _ (h : House) where
   runner-next n i m e =
       let at : h .waits i - 1 ≡ m = omega arith in
       cond-false (eqb (h .waits i) 0) i (runner n h (h .owner (h .waits i - 1) - 1)) (ne-eqb (h .waits i) 0 (omega arith)) ∙ ap (λ k. runner n h (h .owner k - 1)) at
+
+  -- who runs for whom is a matter of waits and owners alone
+  pub runner-same : (g : House) → ((i : ℕ) → g .waits i ≡ h .waits i) → ((m : ℕ) → g .owner m ≡ h .owner m) → (n i : ℕ) → runner n g i ≡ runner n h i
+  unfolding runner
+  runner-same g w o zero i = refl
+  runner-same g w o (suc n) i =
+      rw (w i, o (h .waits i - 1)) (ap (cond (eqb (h .waits i) 0) i) (runner-same g w o n (h .owner (h .waits i - 1) - 1)))
 
   -- once at the end, no step leads on
   pub runner-more : (n i : ℕ) → h .waits (runner n h i) ≡ 0 → runner (suc n) h i ≡ runner n h i
@@ -67,15 +78,11 @@ module _ (h : House) where
           runner-next (suc n) i m f ∙ ih (h .owner m - 1) (sym (ap (h .waits) step) ∙ e) ∙ sym step
 
 module _ (h : House) (s : Standing h) where
-  -- j waits for nothing, and is a task
-  abbrev pub Free : ℕ → Type 0
-  Free j = (h .waits j ≡ 0) × (isTask (h .place j) ≡ true) × (j < 64)
-
-  runner-ends : (n i : ℕ) → i < 64 → isTask (h .place i) ≡ true → lower (s .rank) 64 (s .rank i) ≤ n → Free (runner n h i)
+  runner-ends : (n i : ℕ) → i < 64 → isTask (h .place i) ≡ true → lower (s .rank) 64 (s .rank i) ≤ n → Free h (runner n h i)
   unfolding runner
   runner-ends zero i l t few = go (h .waits i) refl
     where
-      go : (k : ℕ) → h .waits i ≡ k → Free i
+      go : (k : ℕ) → h .waits i ≡ k → Free h i
       go zero e = (e, t, l)
       go (suc m) e =
           let o = owner-of (h .place) (h .waits) (h .owner) (h .row) s i m e in
@@ -84,7 +91,7 @@ module _ (h : House) (s : Standing h) where
           absurd (omega (arith, less))
   runner-ends (suc n) i l t few = go (runner-ends n) (h .waits i) refl
     where
-      go : ((j : ℕ) → j < 64 → isTask (h .place j) ≡ true → lower (s .rank) 64 (s .rank j) ≤ n → Free (runner n h j)) → (k : ℕ) → h .waits i ≡ k → Free (runner (suc n) h i)
+      go : ((j : ℕ) → j < 64 → isTask (h .place j) ≡ true → lower (s .rank) 64 (s .rank j) ≤ n → Free h (runner n h j)) → (k : ℕ) → h .waits i ≡ k → Free h (runner (suc n) h i)
       go ih zero e = rw (runner-self h (suc n) i e) (e, t, l)
       go ih (suc m) e =
           let o = owner-of (h .place) (h .waits) (h .owner) (h .row) s i m e in
@@ -94,7 +101,7 @@ module _ (h : House) (s : Standing h) where
           rw (runner-next h n i m e) (ih j (a .1) (a .2) (omega (arith, less)))
 
   -- who runs for a task waits for nothing, and is a task
-  pub runner-free : (i : ℕ) → i < 64 → isTask (h .place i) ≡ true → Free (runner 64 h i)
+  pub runner-free : (i : ℕ) → i < 64 → isTask (h .place i) ≡ true → Free h (runner 64 h i)
   runner-free i l t = runner-ends 64 i l t (lower-most (s .rank) 64 (s .rank i))
 
   pub runner-runner : (i : ℕ) → i < 64 → isTask (h .place i) ≡ true → runner 64 h (runner 64 h i) ≡ runner 64 h i
@@ -114,32 +121,41 @@ module _ (h : House) (s : Standing h) where
     raised : ℕ → ℕ
     raised x = s .rank x + cond (eqb (runner 64 h x) i) (s .rank b + 1) 0
 
+    raised-i : raised i ≡ s .rank i + (s .rank b + 1)
+    unfolding raised
+    raised-i =
+        rw (cond-true {A = ℕ} (eqb (runner 64 h i) i) (s .rank b + 1) 0 (eq-eqb (runner 64 h i) i (runner-self h 64 i free))) refl
+
+    raised-b : raised b ≡ s .rank b
+    unfolding raised
+    raised-b = rw (cond-false {A = ℕ} (eqb (runner 64 h b) i) (s .rank b + 1) 0 (ne-eqb (runner 64 h b) i apart)) (omega arith)
+
     raised-falls : (x k y : ℕ) → put i (suc m) (h .waits) x ≡ suc k → h .owner k ≡ suc y → raised y < raised x
     unfolding raised
     raised-falls x k y =
         put-both i (suc m) (h .waits) x (λ z. z ≡ suc k → h .owner k ≡ suc y → raised y < raised x)
         (λ at e o.
-        let same : y ≡ b = (let km : k ≡ m = omega arith in let ok = ap (h .owner) km in omega arith) in
-        let self = runner-self h 64 i free in
-        rw (at, same, cond-true {A = ℕ} (eqb (runner 64 h i) i) (s .rank b + 1) 0 (eq-eqb (runner 64 h i) i self), cond-false {A = ℕ} (eqb (runner 64 h b) i) (s .rank b + 1) 0 (ne-eqb (runner 64 h b) i apart)) (omega arith))
+        let same : k ≡ m = omega arith in
+        let to-b : y ≡ b = omega (arith, o, owns, ap (h .owner) same) in
+        rw (at, to-b) (omega (arith, raised-i, raised-b)))
         (λ _ e o. let less = s .falls x k y e o in rw (runner-owner x k y e o) (omega (arith, less)))
 
-    queued-once : (x k : ℕ) → times x (put m (h .row m ++ (i ∷ [])) (h .row) k) ≡ cond (eqb (put i (suc m) (h .waits) x) (suc k)) 1 0
-    queued-once x k =
+    once-queued : (x k : ℕ) → times x (put m (h .row m ++ (i ∷ [])) (h .row) k) ≡ cond (eqb (put i (suc m) (h .waits) x) (suc k)) 1 0
+    once-queued x k =
+        let none = in-no-row (h .place) (h .waits) (h .owner) (h .row) s i in
         put-both m (h .row m ++ (i ∷ [])) (h .row) k (λ z. times x z ≡ cond (eqb (put i (suc m) (h .waits) x) (suc k)) 1 0)
         (λ f. times-push x i (h .row m) ∙ put-both i (suc m) (h .waits) x (λ z. times x (h .row m) + cond (eqb x i) 1 0 ≡ cond (eqb z (suc k)) 1 0)
-        (λ g. let none = in-no-row (h .place) (h .waits) (h .owner) (h .row) s i m free in rw g (let z = none in grind (arith, tells)))
+        (λ g. let z = none m free in rw g (grind (arith, tells)))
         (λ g. let old = s .once x m in rw f (grind (arith, tells))))
         (λ f. put-both i (suc m) (h .waits) x (λ z. times x (h .row k) ≡ cond (eqb z (suc k)) 1 0)
-        (λ g. let none = in-no-row (h .place) (h .waits) (h .owner) (h .row) s i k free in rw g (grind (arith, tells)))
+        (λ g. let z = none k free in rw g (grind (arith, tells)))
         (λ g. s .once x k))
 
+    waiter-queued : (x k : ℕ) → put i (suc m) (h .waits) x ≡ suc k → Waiter (h .place) (h .owner) x k
+    waiter-queued x k =
+        put-both i (suc m) (h .waits) x (λ z. z ≡ suc k → Waiter (h .place) (h .owner) x k)
+        (λ at e. let same : k ≡ m = omega arith in (omega arith, ap (λ z. isTask (h .place z)) at ∙ t, omega (arith, owns, ap (h .owner) same)))
+        (λ _. s .waiter x k)
+
     pub queues-lock : Stands (h .place) (put i (suc m) (h .waits)) (h .owner) (put m (h .row m ++ (i ∷ [])) (h .row))
-    queues-lock =
-        record {
-          rank = raised;
-          once = queued-once;
-          waiter = λ x k. put-both i (suc m) (h .waits) x (λ z. z ≡ suc k → (x < 64) × (isTask (h .place x) ≡ true) × (h .owner k ≡ 0 → ⊥)) (λ at e. let km : k ≡ m = omega arith in let ok = ap (h .owner) km in (omega arith, ap (λ z. isTask (h .place z)) at ∙ t, omega (arith, ok))) (λ _. s .waiter x k);
-          holder = s .holder;
-          falls = raised-falls;
-        }
+    queues-lock = record { rank = raised; once = once-queued; waiter = waiter-queued; holder = s .holder; falls = raised-falls }

@@ -12,11 +12,19 @@ use Rattle.sched.specs.House.{Place, put, isTask}
 use Rattle.sched.specs.Promise.{times}
 use Rattle.sched.proofs.Puts.{put-here, put-else, put-both}
 
+-- a task below 64 that waits for a lock which somebody has
+abbrev pub Waiter : (ℕ → Place) → (ℕ → ℕ) → (i m : ℕ) → Type 0
+Waiter place owner i m = (i < 64) × (isTask (place i) ≡ true) × (owner m ≡ 0 → ⊥)
+
+-- a lock below 64 and the task below 64 that has it
+abbrev pub Holder : (ℕ → Place) → (m j : ℕ) → Type 0
+Holder place m j = (m < 64) × (j < 64) × (isTask (place j) ≡ true)
+
 pub record Stands (place : ℕ → Place) (waits owner : ℕ → ℕ) (row : ℕ → List ℕ) : Type 0 where
   pub rank : ℕ → ℕ
   pub once : (i m : ℕ) → times i (row m) ≡ cond (eqb (waits i) (suc m)) 1 0
-  pub waiter : (i m : ℕ) → waits i ≡ suc m → (i < 64) × (isTask (place i) ≡ true) × (owner m ≡ 0 → ⊥)
-  pub holder : (m j : ℕ) → owner m ≡ suc j → (m < 64) × (j < 64) × (isTask (place j) ≡ true)
+  pub waiter : (i m : ℕ) → waits i ≡ suc m → Waiter place owner i m
+  pub holder : (m j : ℕ) → owner m ≡ suc j → Holder place m j
   pub falls : (i m j : ℕ) → waits i ≡ suc m → owner m ≡ suc j → rank j < rank i
 
 times-head : (j : ℕ) (js : List ℕ) → times j (j ∷ js) ≡ 1 + times j js
@@ -92,6 +100,11 @@ leaves-place p w o r k x s free nothing =
     still : (i : ℕ) → (i ≡ k → ⊥) → isTask (p i) ≡ true → isTask (put k x p i) ≡ true
     still i n t = ap isTask (put-else k x p i n) ∙ t
 
+-- m changes hands: whoever has it now is a task, if anybody
+holders-put : (p : ℕ → Place) (o : ℕ → ℕ) (m x : ℕ) → ((k j : ℕ) → o k ≡ suc j → Holder p k j) → ((j : ℕ) → x ≡ suc j → Holder p m j) → (k j : ℕ) → put m x o k ≡ suc j → Holder p k j
+holders-put p o m x old new k j =
+    put-both m x o k (λ z. z ≡ suc j → Holder p k j) (λ f e. let y = new j e in (omega (arith, f, y .0), y .1, y .2)) (λ _. old k j)
+
 -- i takes m, which nobody has
 pub takes-lock : (p : ℕ → Place) (w o : ℕ → ℕ) (r : ℕ → List ℕ) (i m : ℕ) → Stands p w o r → i < 64 → isTask (p i) ≡ true → m < 64 → o m ≡ 0 → Stands p w (put m (suc i) o) r
 takes-lock p w o r i m s l t l′ free =
@@ -99,9 +112,13 @@ takes-lock p w o r i m s l t l′ free =
       rank = s .rank;
       once = s .once;
       waiter = λ j k e. let x = s .waiter j k e in (x .0, x .1, put-both m (suc i) o k (λ z. z ≡ 0 → ⊥) (λ _. omega arith) (λ _. x .2));
-      holder = λ k j. put-both m (suc i) o k (λ z. z ≡ suc j → (k < 64) × (j < 64) × (isTask (p j) ≡ true)) (λ f e. let g : i ≡ j = omega arith in (omega arith, omega arith, ap (λ z. isTask (p z)) (sym g) ∙ t)) (λ _. s .holder k j);
-      falls = λ j k b e. put-both m (suc i) o k (λ z. z ≡ suc b → s .rank b < s .rank j) (λ f _. absurd (s .waiter j k e .2 (ap o f ∙ free))) (λ _. s .falls j k b e);
+      holder = holders-put p o m (suc i) (s .holder) (λ j e. let g : j ≡ i = omega arith in (l′, omega arith, ap (λ z. isTask (p z)) g ∙ t));
+      falls = falls-now;
     }
+  where
+    falls-now : (j k b : ℕ) → w j ≡ suc k → put m (suc i) o k ≡ suc b → s .rank b < s .rank j
+    falls-now j k b e =
+        put-both m (suc i) o k (λ z. z ≡ suc b → s .rank b < s .rank j) (λ f _. absurd (s .waiter j k e .2 (ap o f ∙ free))) (λ _. s .falls j k b e)
 
 -- m is given back, and nobody waits for it
 pub frees-lock : (p : ℕ → Place) (w o : ℕ → ℕ) (r : ℕ → List ℕ) (m : ℕ) → Stands p w o r → r m ≡ [] → Stands p w (put m 0 o) (put m [] r)
@@ -109,19 +126,20 @@ unfolding times
 frees-lock p w o r m s none =
     record {
       rank = s .rank;
-      once = λ i k. put-both m [] r k (λ z. times i z ≡ cond (eqb (w i) (suc k)) 1 0) (λ f. sym (ap (times i) (ap r f ∙ none)) ∙ s .once i k) (λ _. s .once i k);
+      once = once-now;
       waiter = λ i k e. let x = s .waiter i k e in (x .0, x .1, put-both m 0 o k (λ z. z ≡ 0 → ⊥) (λ f _. nobody i k e f) (λ _. x .2));
-      holder = λ k j. put-both m 0 o k (λ z. z ≡ suc j → (k < 64) × (j < 64) × (isTask (p j) ≡ true)) (λ _ e. absurd (omega arith)) (λ _. s .holder k j);
+      holder = holders-put p o m 0 (s .holder) (λ j e. absurd (omega arith));
       falls = λ i k j e. put-both m 0 o k (λ z. z ≡ suc j → s .rank j < s .rank i) (λ _ f. absurd (omega arith)) (λ _. s .falls i k j e);
     }
   where
-    nobody : (i k : ℕ) → w i ≡ suc k → k ≡ m → ⊥
-    nobody i k e f =
-        let one = times-one p w o r s i k e in
-        let zero' : times i (r k) ≡ 0 = ap (times i) (ap r f ∙ none) in
-        omega (arith, one, zero')
+    once-now : (i k : ℕ) → times i (put m [] r k) ≡ cond (eqb (w i) (suc k)) 1 0
+    once-now i k =
+        put-both m [] r k (λ z. times i z ≡ cond (eqb (w i) (suc k)) 1 0) (λ f. sym (ap (times i) (ap r f ∙ none)) ∙ s .once i k) (λ _. s .once i k)
 
--- m is given back by i, and j, first in its row, has it next: nobody is left behind whom j waits for
+    nobody : (i k : ℕ) → w i ≡ suc k → k ≡ m → ⊥
+    nobody i k e f = omega (arith, times-one p w o r s i k e, ap (times i) (ap r f ∙ none))
+
+-- m is given back by i, and j, first in its row, has it; js, behind it, go on waiting, now for j
 module _ (p : ℕ → Place) (w o : ℕ → ℕ) (r : ℕ → List ℕ) (i m j : ℕ) (js : List ℕ) (s : Stands p w o r) (owns : o m ≡ suc i) (next : r m ≡ j ∷ js) where
   waits-j : w j ≡ suc m
   waits-j = waits-in p w o r s j m (omega (arith, ap (times j) next, times-head j js))
@@ -130,36 +148,48 @@ module _ (p : ℕ → Place) (w o : ℕ → ℕ) (r : ℕ → List ℕ) (i m j :
   rest-j : times j js ≡ 0
   rest-j = omega (arith, ap (times j) next, times-head j js, times-one p w o r s j m waits-j)
 
-  passed-once : (x k : ℕ) → times x (put m js r k) ≡ cond (eqb (put j 0 w x) (suc k)) 1 0
-  passed-once x k =
-      let none : _≡_ {A = ℕ} (cond (eqb 0 (suc k)) 1 0) 0 = cond-false {A = ℕ} (eqb 0 (suc k)) 1 0 (ne-eqb 0 (suc k) (omega arith)) in
-      put-both m js r k (λ z. times x z ≡ cond (eqb (put j 0 w x) (suc k)) 1 0)
-      (λ f. put-both j 0 w x (λ z. times x js ≡ cond (eqb z (suc k)) 1 0)
-      (λ g. rw (g, rest-j, none) refl)
-      (λ g. rw f (sym (times-behind x j js g) ∙ sym (ap (times x) next) ∙ s .once x m)))
-      (λ f. put-both j 0 w x (λ z. times x (r k) ≡ cond (eqb z (suc k)) 1 0)
-      (λ g. rw none (times-none p w o r s x k (λ h. f (let u = ap w g ∙ waits-j in omega (arith, u, h)))))
-      (λ g. s .once x k))
+  -- a place that waits for nothing is asked for in no row
+  none : (k : ℕ) → _≡_ {A = ℕ} 0 (cond (eqb 0 (suc k)) 1 0)
+  none k = sym (cond-false {A = ℕ} (eqb 0 (suc k)) 1 0 (ne-eqb 0 (suc k) (omega arith)))
+
+  row-m : (x : ℕ) → times x js ≡ cond (eqb (put j 0 w x) (suc m)) 1 0
+  row-m x =
+      put-both j 0 w x (λ z. times x js ≡ cond (eqb z (suc m)) 1 0) (λ f. ap (λ y. times y js) f ∙ rest-j ∙ none m)
+      (λ n. sym (times-behind x j js n) ∙ sym (ap (times x) next) ∙ s .once x m)
+
+  other-row : (x k : ℕ) → (k ≡ m → ⊥) → times x (r k) ≡ cond (eqb (put j 0 w x) (suc k)) 1 0
+  other-row x k n =
+      put-both j 0 w x (λ z. times x (r k) ≡ cond (eqb z (suc k)) 1 0)
+      (λ f. times-none p w o r s x k (λ e. n (omega (arith, e, ap w f ∙ waits-j))) ∙ none k)
+      (λ _. s .once x k)
+
+  once-passed : (x k : ℕ) → times x (put m js r k) ≡ cond (eqb (put j 0 w x) (suc k)) 1 0
+  once-passed x k =
+      put-both m js r k (λ z. times x z ≡ cond (eqb (put j 0 w x) (suc k)) 1 0) (λ f. rw f (row-m x)) (other-row x k)
+
+  waiter-passed : (x k : ℕ) → put j 0 w x ≡ suc k → Waiter p (put m (suc j) o) x k
+  waiter-passed x k =
+      put-both j 0 w x (λ z. z ≡ suc k → Waiter p (put m (suc j) o) x k) (λ _ e. absurd (omega arith))
+      (λ _ e. let y = s .waiter x k e in (y .0, y .1, put-both m (suc j) o k (λ z. z ≡ 0 → ⊥) (λ _. omega arith) (λ _. y .2)))
 
   -- j owns what the others in the row wait for, and has rank 0, below theirs
-  passed-falls : (x k y : ℕ) → put j 0 w x ≡ suc k → put m (suc j) o k ≡ suc y → put j 0 (s .rank) y < put j 0 (s .rank) x
-  passed-falls x k y =
-      put-both j 0 w x (λ z. z ≡ suc k → put m (suc j) o k ≡ suc y → put j 0 (s .rank) y < put j 0 (s .rank) x)
-      (λ _ e. absurd (omega arith))
-      (λ f e. put-both m (suc j) o k (λ z. z ≡ suc y → put j 0 (s .rank) y < put j 0 (s .rank) x)
-      (λ g u. let h : w x ≡ suc m = e ∙ ap suc g in
-      let less = s .falls x m i h owns in
-      let v : y ≡ j = omega arith in
-      rw (put-here j 0 (s .rank) y v, put-else j 0 (s .rank) x f) (omega (arith, less)))
-      (λ g u. let less = s .falls x k y e u in
-      rw (put-else j 0 (s .rank) x f) (put-both j 0 (s .rank) y (λ z. z < s .rank x) (λ _. omega (arith, less)) (λ _. less))))
+  falls-passed : (x k y : ℕ) → put j 0 w x ≡ suc k → put m (suc j) o k ≡ suc y → put j 0 (s .rank) y < put j 0 (s .rank) x
+  falls-passed x k y =
+      put-both j 0 w x (λ z. z ≡ suc k → put m (suc j) o k ≡ suc y → put j 0 (s .rank) y < put j 0 (s .rank) x) (λ _ e. absurd (omega arith))
+      (λ n e. rw (put-else j 0 (s .rank) x n) (put-both m (suc j) o k (λ z. z ≡ suc y → put j 0 (s .rank) y < s .rank x) (λ f u. to-j x y (e ∙ ap suc f) u) (λ _ u. elsewhere x k y e u)))
+    where
+      to-j : (x y : ℕ) → w x ≡ suc m → suc j ≡ suc y → put j 0 (s .rank) y < s .rank x
+      to-j x y e u = let v : y ≡ j = omega arith in rw (put-here j 0 (s .rank) y v) (omega (arith, s .falls x m i e owns))
+
+      elsewhere : (x k y : ℕ) → w x ≡ suc k → o k ≡ suc y → put j 0 (s .rank) y < s .rank x
+      elsewhere x k y e u = let less = s .falls x k y e u in put-both j 0 (s .rank) y (λ z. z < s .rank x) (λ _. omega arith) (λ _. less)
 
   pub passes-lock : Stands p (put j 0 w) (put m (suc j) o) (put m js r)
   passes-lock =
       record {
         rank = put j 0 (s .rank);
-        once = passed-once;
-        waiter = λ x k. put-both j 0 w x (λ z. z ≡ suc k → (x < 64) × (isTask (p x) ≡ true) × (put m (suc j) o k ≡ 0 → ⊥)) (λ _ e. absurd (omega arith)) (λ _ e. let y = s .waiter x k e in (y .0, y .1, put-both m (suc j) o k (λ z. z ≡ 0 → ⊥) (λ _. omega arith) (λ _. y .2)));
-        holder = λ k y. put-both m (suc j) o k (λ z. z ≡ suc y → (k < 64) × (y < 64) × (isTask (p y) ≡ true)) (λ f e. let l = s .holder m i owns .0 in let x = s .waiter j m waits-j in let g : j ≡ y = omega arith in (omega (arith, l), omega (arith, x .0), ap (λ z. isTask (p z)) (sym g) ∙ x .1)) (λ _. s .holder k y);
-        falls = passed-falls;
+        once = once-passed;
+        waiter = waiter-passed;
+        holder = holders-put p o m (suc j) (s .holder) (λ y e. let x = s .waiter j m waits-j in let g : y ≡ j = omega arith in (s .holder m i owns .0, omega (arith, x .0), ap (λ z. isTask (p z)) g ∙ x .1));
+        falls = falls-passed;
       }

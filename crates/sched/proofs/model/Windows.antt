@@ -1,0 +1,200 @@
+-- Windows are well formed in every house that can come about: calls and ticks keep them so.
+use mathlib.Core.Path.{_≡_, refl, sym, ap, subst, _∙_}
+use mathlib.Core.Logic.{_⊎_, inl, inr}
+use mathlib.Core.Bool.{Bool, true, false, cond, _&&_, true≢false, false≢true}
+use mathlib.Core.List.{List, [], _∷_}
+use Prim.Native.Nat.{ℕ, zero, suc, _+_, _-_, _*_, _/_, _%_, _<_, _≤_}
+use native.Mathlib.Omega.{arith}
+use lib.Dec.{T, eqb, ltb, leb, leb→le, ltb→lt, eqb→eq}
+use Rattle.std.proofs.shelf.Tests.{cases-bool, cases-eq, cond-both, eqb-true}
+use Rattle.std.specs.declared.option.Option.{Option}
+use Rattle.sched.specs.declared.Kind.{Kind}
+use Rattle.sched.specs.declared.Kind.the-variants.{Reserved, Fixed, Fair}
+use Rattle.sched.specs.declared.Call.{Call}
+use Rattle.sched.specs.House.{House, Place, Nobody, A, Kept, Window, Shut, Open, Out, good, isReserved, isFixed, isTask, weightOf, rankOf, rankWants, topRank, inTurn, leastFar, fairWants, nearer, some', quotaOf, periodOf, gotOf, wants, runner, due, mayTake, opened, openWith, openKept, passed, freed, leaves, after, numberOf, calls, put, mayRun, kept}
+use Rattle.sched.specs.Promise.{Comes, begin, called, ran}
+use Rattle.sched.specs.Windows.{Formed, free, shut, open', kept', endsOf, isWhole, WindowsWellFormed}
+use Rattle.sched.specs.Policy.{mayHave}
+use Rattle.sched.proofs.Tests.{T-true, true-T, and-left-T, and-right-T}
+use Rattle.sched.proofs.Puts.{put-both}
+use Rattle.sched.proofs.model.CallWays.{Ways, call-ways}
+
+-- the numbers of a reservation
+pub record Numbers (q p : ℕ) : Type 0 where
+  pub longer : 4 ≤ p
+  pub shorter : p ≤ 10080
+  pub divides : 10080 % p ≡ 0
+  pub some : 1 ≤ q
+
+pub numbers : (q p : ℕ) → T (good (Reserved q p)) → Numbers q p
+unfolding good
+numbers q p t =
+    let l = leb 4 p in
+    let u = leb p 10080 in
+    let d = eqb (10080 % p) 0 in
+    let a = and-left-T (l && u && d && leb 1 q) (leb q p) t in
+    let b = and-left-T (l && u && d) (leb 1 q) a in
+    record {
+      longer = leb→le 4 p (and-left-T l u (and-left-T (l && u) d b));
+      shorter = leb→le p 10080 (and-right-T l u (and-left-T (l && u) d b));
+      divides = eqb→eq (10080 % p) 0 (and-right-T (l && u) d b);
+      some = leb→le 1 q (and-right-T (l && u && d) (leb 1 q) a);
+    }
+
+-- the window at the beginning of a tick, of a task that wants it or not
+abbrev pub begun : Place → Window → Bool → Window
+begun p w v = cond (isReserved p) (openWith v (periodOf p) w) (openKept w)
+
+pub formed-begun : {p : Place} {w : Window} → Formed p w → (v : Bool) → Formed p (begun p w v)
+unfolding isReserved openKept openWith periodOf
+formed-begun free v = free
+formed-begun (shut (Reserved q p) g) true =
+    let n = numbers q p g in
+    open' q p p 0 true g (omega arith) (omega arith) (omega arith)
+formed-begun (shut (Reserved q p) g) false = shut (Reserved q p) g
+formed-begun (shut (Fixed r) g) v = shut (Fixed r) g
+formed-begun (shut (Fair x) g) v = shut (Fair x) g
+formed-begun (open' q p e g b k l u m) v = open' q p e g (b && v) k l u m
+formed-begun (kept' q p e g b k l u m) v = kept' q p e g false k l u m
+
+-- whoever has the tick hasn't had its quota, or has none
+abbrev pub Entitled : Place → Window → Type 0
+Entitled p w = (gotOf w < quotaOf p) ⊎ (periodOf p ≡ 0)
+
+pub formed-passed : {p : Place} {w : Window} → Formed p w → (m : Bool) → (m ≡ true → Entitled p w) → Formed (freed (passed m w) p) (passed m w)
+unfolding passed freed gotOf quotaOf periodOf
+formed-passed free m s = free
+formed-passed (shut k g) m s = shut k g
+formed-passed (open' q p zero g b k l u n) m s = absurd (omega arith)
+formed-passed (open' q p (suc zero) g b k l u n) m s = shut (Reserved q p) k
+formed-passed (open' q p (suc (suc e)) g b k l u n) true s =
+    let a = numbers q p k in
+    let some = s refl in
+    open' q p (suc e) (g + 1) b k (omega arith) (omega arith) (omega arith)
+formed-passed (open' q p (suc (suc e)) g b k l u n) false s = open' q p (suc e) g b k (omega arith) (omega arith) n
+formed-passed (kept' q p zero g b k l u n) m s = absurd (omega arith)
+formed-passed (kept' q p (suc zero) g b k l u n) m s = free
+formed-passed (kept' q p (suc (suc e)) g b k l u n) true s =
+    let a = numbers q p k in
+    let some = s refl in
+    kept' q p (suc e) (g + 1) b k (omega arith) (omega arith) (omega arith)
+formed-passed (kept' q p (suc (suc e)) g b k l u n) false s = kept' q p (suc e) g b k (omega arith) (omega arith) n
+
+pub formed-leaves : {p : Place} {w : Window} → Formed p w → isTask p ≡ true → Formed (leaves w p) w
+unfolding leaves isTask isReserved quotaOf periodOf
+formed-leaves free t = absurd (false≢true t)
+formed-leaves (shut k g) t = free
+formed-leaves (open' q p e g b k l u m) t = kept' q p e g b k l u m
+formed-leaves (kept' q p e g b k l u m) t = absurd (false≢true t)
+
+-- WHOSE TICK
+in-turn : (f : ℕ → Bool) (l : List ℕ) (i : ℕ) → inTurn f l ≡ suc i → f i ≡ true
+unfolding inTurn
+in-turn f [] i = λ e. absurd (omega arith)
+in-turn f (j ∷ js) i =
+    cond-both (f j) (suc j) (inTurn f js) (λ x. x ≡ suc i → f i ≡ true)
+    (λ t e. let same : j ≡ i = omega arith in subst (λ x. f x ≡ true) same t) (λ _ e. in-turn f js i e)
+
+fixed-period : (p : Place) → isFixed p ≡ true → periodOf p ≡ 0
+unfolding isFixed periodOf
+fixed-period Nobody t = refl
+fixed-period (A (Reserved q p)) t = absurd (false≢true t)
+fixed-period (A (Fixed r)) t = refl
+fixed-period (A (Fair x)) t = refl
+fixed-period (Kept q p) t = absurd (false≢true t)
+
+fair-period : (p : Place) → 0 < weightOf p → periodOf p ≡ 0
+unfolding weightOf periodOf
+fair-period Nobody l = refl
+fair-period (A (Reserved q p)) l = absurd (omega arith)
+fair-period (A (Fixed r)) l = refl
+fair-period (A (Fair x)) l = refl
+fair-period (Kept q p) l = absurd (omega arith)
+
+-- why i may have the tick: it is due; or nobody is, and it is in turn among the fixed ones, or the least far of the fair ones
+pub data Taken (h : House) (i : ℕ) : Type 0 where
+  by-due : T (due h i) → Taken h i
+  by-rank : some' 16 (λ (r : ℕ). some' 64 (rankWants h r)) ≡ true → periodOf (h .place i) ≡ 0 → Taken h i
+  by-fair : T (leastFar h i) → periodOf (h .place i) ≡ 0 → Taken h i
+
+module _ (h : House) (i : ℕ) where
+  pub due-got : T (due h i) → gotOf (h .window i) < quotaOf (h .place i)
+  due-got d = ltb→lt (gotOf (h .window i)) (quotaOf (h .place i)) (and-right-T (isReserved (h .place i) && wants h i) (ltb (gotOf (h .window i)) (quotaOf (h .place i))) d)
+
+  ranked : T (eqb (suc i) (inTurn (rankWants h (topRank h)) (h .turn))) → periodOf (h .place i) ≡ 0
+  ranked t =
+      let r : rankWants h (topRank h) i ≡ true = in-turn (rankWants h (topRank h)) (h .turn) i (sym (eqb→eq (suc i) (inTurn (rankWants h (topRank h)) (h .turn)) t)) in
+      let f = isFixed (h .place i) in
+      let e = eqb (rankOf (h .place i)) (topRank h) in
+      fixed-period (h .place i) (T-true f (and-left-T f e (and-left-T (f && e) (wants h i) (true-T (rankWants h (topRank h) i) r))))
+
+  fair : T (leastFar h i) → periodOf (h .place i) ≡ 0
+  fair t =
+      let w = ltb 0 (weightOf (h .place i)) in
+      fair-period (h .place i) (ltb→lt 0 (weightOf (h .place i)) (and-left-T w (wants h i) (and-left-T (fairWants h i) _ t)))
+
+  pub take-below : T (mayTake h i) → i < 64
+  take-below t = ltb→lt i 64 (and-left-T (ltb i 64) _ t)
+
+  pub take-ways : T (mayTake h i) → Taken h i
+  take-ways t =
+      let P : Bool → Type 0 = λ b. T b → Taken h i in
+      cond-both (some' 64 (due h)) (due h i) _ P (λ _ d. by-due d)
+      (λ _. cond-both (some' 16 (λ (r : ℕ). some' 64 (rankWants h r))) (eqb (suc i) (inTurn (rankWants h (topRank h)) (h .turn))) (leastFar h i) P (λ s e. by-rank s (ranked e)) (λ _ e. by-fair e (fair e)))
+      (and-right-T (ltb i 64) _ t)
+
+  taken-entitled : Taken h i → Entitled (h .place i) (h .window i)
+  taken-entitled (by-due d) = inl (due-got d)
+  taken-entitled (by-rank _ e) = inr e
+  taken-entitled (by-fair _ e) = inr e
+
+  pub take-entitled : T (mayTake h i) → Entitled (h .place i) (h .window i)
+  take-entitled t = taken-entitled (take-ways t)
+
+-- a tick that is i's is one that i may take
+have-take : (r i : ℕ) (rest : Bool) (take runs : ℕ → Bool) → r ≡ suc i → T (cond (eqb r 0) rest (take (r - 1) && runs (r - 1))) → T (take i)
+have-take r i rest take runs e =
+    cond-both (eqb r 0) rest (take (r - 1) && runs (r - 1)) (λ b. T b → T (take i)) (λ z _. let zero-is = eqb-true r 0 z in absurd (omega arith))
+    (λ _ t. let same : r - 1 ≡ i = omega arith in subst (λ x. T (take x)) same (and-left-T (take (r - 1)) (runs (r - 1)) t))
+
+module _ (h : House) (t : Option ℕ) (j : ℕ) (m : T (mayHave h t j)) where
+  pub take : (i : ℕ) → numberOf t ≡ suc i → T (mayTake (opened h) i)
+  take i e = have-take (numberOf t) i _ (mayTake (opened h)) (λ x. eqb j (runner 64 h x)) e m
+
+  pub formed-tick : ((i : ℕ) → Formed (h .place i) (h .window i)) → (i : ℕ) → Formed (after h t .place i) (after h t .window i)
+  formed-tick f i =
+      formed-passed (formed-begun (f i) (wants h i)) (eqb (numberOf t) (suc i)) (λ e. take-entitled (opened h) i (take i (eqb-true (numberOf t) (suc i) e)))
+
+-- CALLS
+abbrev AllFormed : Out → Type 0
+AllFormed o = (i : ℕ) → Formed (o .house .place i) (o .house .window i)
+
+-- two functions put at one place
+pub put-two : {X Y : Type 0} (n : ℕ) (x : X) (y : Y) (f : ℕ → X) (g : ℕ → Y) (i : ℕ) (P : X → Y → Type 0) → (i ≡ n → P x y) → P (f i) (g i) → P (put n x f i) (put n y g i)
+put-two n x y f g i P here else = go (eqb i n) (λ e. here (eqb-true i n e))
+  where
+    go : (b : Bool) → (b ≡ true → P x y) → P (cond b x (f i)) (cond b y (g i))
+    go true p = p refl
+    go false p = else
+
+formed-ways : (h : House) → ((i : ℕ) → Formed (h .place i) (h .window i)) → Ways h AllFormed
+formed-ways h f =
+    record {
+      refused = λ n. f;
+      make = λ n k _ _ _ g _ i. put-two n (A k) Shut (h .place) (h .window) i Formed (λ _. shut k (true-T (good k) g)) (f i);
+      end = λ i _ t _ _ j. put-both i (leaves (h .window i) (h .place i)) (h .place) j (λ p. Formed p (h .window j)) (λ e. rw e (formed-leaves (f i) t)) (λ _. f j);
+      wake = λ i _ _. f;
+      sleep = λ i _ _ _. f;
+      take = λ i m _ _ _ _ _ _. f;
+      queue = λ i m _ _ _ _ _ _ _. f;
+      free = λ i m _ _ _ _ _ _. f;
+      pass = λ i m j js _ _ _ _ _ _. f;
+    }
+
+pub formed-call : (h : House) (c : Call) → ((i : ℕ) → Formed (h .place i) (h .window i)) → (i : ℕ) → Formed (calls c h .house .place i) (calls c h .house .window i)
+formed-call h c f = call-ways h AllFormed (formed-ways h f) c
+
+pub windows-well-formed : WindowsWellFormed
+windows-well-formed h begin i = free
+windows-well-formed h (called {h = was} c r) i = formed-call was c (windows-well-formed was r) i
+windows-well-formed h (ran {h = was} t j r m) i = formed-tick was t j (and-left-T (mayHave was t j) (kept (opened was) (numberOf t)) m) (windows-well-formed was r) i

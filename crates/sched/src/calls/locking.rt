@@ -1,0 +1,46 @@
+// lock and unlock.
+use crate::Answer;
+use crate::Scheduler;
+use crate::refusal::Refusal;
+use quantities::ids::LockId;
+
+impl Scheduler {
+    pub(crate) fn lock(&mut self, number: u32, lock: u32) -> Answer {
+        let Some(i) = self.tasks.find(number) else {
+            return Refusal::NoTask.answer();
+        };
+        let Some(m) = LockId::new(lock) else {
+            return Refusal::BadNumber.answer();
+        };
+        if self.locks.is_waiting(i) || !self.tasks.is_awake(i) {
+            return Refusal::Waits.answer();
+        }
+        let Some(owner) = self.locks.owner(m) else {
+            self.locks.take(m, i);
+            return Answer::Done;
+        };
+        // The runner and not the owner: a ring of three closes through somebody between.
+        if self.locks.runner(owner).index() == i.index() {
+            return Refusal::Ring.answer();
+        }
+        self.locks.wait(m, i);
+        Answer::Done
+    }
+
+    pub(crate) fn unlock(&mut self, number: u32, lock: u32) -> Answer {
+        let Some(i) = self.tasks.find(number) else {
+            return Refusal::NoTask.answer();
+        };
+        let Some(m) = LockId::new(lock) else {
+            return Refusal::BadNumber.answer();
+        };
+        if self.locks.is_waiting(i) {
+            return Refusal::Waits.answer();
+        }
+        if !self.locks.is_owner(m, i) {
+            return Refusal::NotOwner.answer();
+        }
+        self.locks.pass_on(m);
+        Answer::Done
+    }
+}

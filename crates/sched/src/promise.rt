@@ -1,0 +1,66 @@
+// What a task was promised, with its numbers known to be good.
+ghost use Prim.Native.Nat.{_≤_};
+use crate::Kind;
+use quantities::promises::Rank;
+use quantities::promises::Reservation;
+use quantities::promises::Weight;
+
+#[derive(Clone, Copy)]
+pub enum Promise {
+    Reserved(Reservation),
+    Fixed(Rank),
+    Fair(Weight),
+}
+
+impl Promise {
+    // The promise of this kind, if its numbers are good.
+    pub fn of(kind: Kind) -> Option<Promise> {
+        match kind {
+            Kind::Reserved(quota, period) => {
+                let Some(reservation) = Reservation::new(quota, period) else {
+                    return None;
+                };
+                Some(Promise::Reserved(reservation))
+            }
+            Kind::Fixed(number) => {
+                let Some(rank) = Rank::new(number) else {
+                    return None;
+                };
+                Some(Promise::Fixed(rank))
+            }
+            Kind::Fair(number) => {
+                let Some(weight) = Weight::new(number) else {
+                    return None;
+                };
+                Some(Promise::Fair(weight))
+            }
+        }
+    }
+
+    pub fn is_fair(self) -> bool {
+        match self {
+            Promise::Reserved(_) => false,
+            Promise::Fixed(_) => false,
+            Promise::Fair(_) => true,
+        }
+    }
+
+    pub fn reservation(self) -> Option<Reservation> {
+        match self {
+            Promise::Reserved(reservation) => Some(reservation),
+            Promise::Fixed(_) => None,
+            Promise::Fair(_) => None,
+        }
+    }
+
+    // Its part of the processor, in 10,080ths; only a reservation has one.
+    pub fn share(self) -> u32
+        ensures { λ r. ⌜ r ≤ 10080 ⌝ }
+    {
+        match self {
+            Promise::Reserved(reservation) => reservation.share().parts(),
+            Promise::Fixed(_) => 0,
+            Promise::Fair(_) => 0,
+        }
+    }
+}

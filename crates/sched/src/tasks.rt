@@ -1,0 +1,144 @@
+// Who is at each place, and whether it is awake.
+ghost use Prim.Native.Nat.{_≤_};
+use crate::promise::Promise;
+use quantities::ids::TaskId;
+use quantities::promises::Reservation;
+
+// A place: free, a task's, or kept for the share of a task that ended before its window was over.
+#[derive(Clone, Copy)]
+pub enum Slot {
+    Free,
+    Task(Promise),
+    Kept(Reservation),
+}
+
+impl Slot {
+    pub fn is_free(self) -> bool {
+        match self {
+            Slot::Free => true,
+            Slot::Task(_) => false,
+            Slot::Kept(_) => false,
+        }
+    }
+
+    pub fn is_task(self) -> bool {
+        match self {
+            Slot::Free => false,
+            Slot::Task(_) => true,
+            Slot::Kept(_) => false,
+        }
+    }
+
+    pub fn is_fair(self) -> bool {
+        match self {
+            Slot::Free => false,
+            Slot::Task(promise) => promise.is_fair(),
+            Slot::Kept(_) => false,
+        }
+    }
+
+    // The reservation of the task that is here.
+    pub fn reservation(self) -> Option<Reservation> {
+        match self {
+            Slot::Free => None,
+            Slot::Task(promise) => promise.reservation(),
+            Slot::Kept(_) => None,
+        }
+    }
+
+    // The part of the processor that is spoken for by whoever is, or was, here.
+    pub fn share(self) -> u32
+        ensures { λ r. ⌜ r ≤ 10080 ⌝ }
+    {
+        match self {
+            Slot::Free => 0,
+            Slot::Task(promise) => promise.share(),
+            Slot::Kept(reservation) => reservation.share().parts(),
+        }
+    }
+}
+
+#[derive(Drop)]
+pub struct Tasks {
+    slots: [Slot; 64],
+    awake: [bool; 64],
+}
+
+impl Tasks {
+    pub fn new() -> Tasks {
+        Tasks {
+            slots: [Slot::Free; 64],
+            awake: [false; 64],
+        }
+    }
+
+    pub fn slot(&self, i: TaskId) -> Slot {
+        self.slots[i.index()]
+    }
+
+    // The task of this number, if there is one.
+    pub fn find(&self, number: u32) -> Option<TaskId> {
+        let Some(i) = TaskId::new(number) else {
+            return None;
+        };
+        if !self.slot(i).is_task() {
+            return None;
+        }
+        Some(i)
+    }
+
+    // The lowest free place.
+    pub fn free_place(&self) -> Option<TaskId> {
+        for i in 0..64usize {
+            let slot = self.slots[i];
+            if slot.is_free() {
+                return TaskId::new(i as u32);
+            }
+        }
+        None
+    }
+
+    // The shares of all reserved tasks, and those that are kept.
+    pub fn shares(&self) -> u32
+        ensures { λ r. ⌜ r ≤ 645120 ⌝ }
+    {
+        let mut sum: u32 = 0;
+        for i in 0..64usize {
+            let slot = self.slots[i];
+            sum += slot.share();
+        }
+        sum
+    }
+
+    // A new task at a place, asleep.
+    pub fn put(&mut self, i: TaskId, promise: Promise) {
+        self.slots[i.index()] = Slot::Task(promise);
+        self.awake[i.index()] = false;
+    }
+
+    // The task is gone, and leaves this.
+    pub fn clear(&mut self, i: TaskId, left: Slot) {
+        self.slots[i.index()] = left;
+        self.awake[i.index()] = false;
+    }
+
+    // A kept place is free again.
+    pub fn release(&mut self, i: TaskId) {
+        let slot = self.slots[i.index()];
+        match slot {
+            Slot::Free => {}
+            Slot::Task(_) => {}
+            Slot::Kept(_) => {
+                self.slots[i.index()] = Slot::Free;
+            }
+        }
+    }
+
+    pub fn is_awake(&self, i: TaskId) -> bool {
+        self.awake[i.index()]
+    }
+
+    pub fn set_awake(&mut self, i: TaskId, awake: bool) {
+        self.awake[i.index()] = awake;
+    }
+}
