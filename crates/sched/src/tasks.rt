@@ -66,10 +66,7 @@ pub struct Tasks {
 
 impl Tasks {
     pub fn new() -> Tasks {
-        Tasks {
-            slots: [Slot::Free; 64],
-            awake: [false; 64],
-        }
+        Tasks { slots: [Slot::Free; 64], awake: [false; 64] }
     }
 
     pub fn slot(&self, i: TaskId) -> Slot {

@@ -12,10 +12,7 @@ pub struct Theatre {
 
 impl Theatre {
     pub fn new() -> Theatre {
-        Theatre {
-            scheduler: Scheduler::new(),
-            had: [None; 64],
-        }
+        Theatre { scheduler: Scheduler::new(), had: [None; 64] }
     }
 
     pub fn call(&mut self, call: Call) -> Answer {
