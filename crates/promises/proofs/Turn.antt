@@ -13,7 +13,8 @@ use Rattle.sched.proofs.Tests.{T-true}
 use Rattle.sched.proofs.Puts.{put-at, put-else, put-both}
 use Rattle.sched.proofs.Bounded.{some-from, first-least, first-below}
 use Rattle.sched.proofs.model.CallWays.{Ways, call-ways}
-use Rattle.sched.proofs.model.TakeWays.{run-taken, in-turn-is, rank-wants-parts, fixed-takes, wants-opened}
+use Rattle.sched.proofs.model.TakeWays.{run-taken, rank-wants-parts, fixed-takes}
+use Rattle.sched.proofs.model.Ticks.{wants-opened, in-turn as in-turn-may}
 use Rattle.promises.specs.InTurn.{Dated, begin, called, ran, dates, InTurn}
 use Rattle.promises.proofs.Orders.{Among, InOrder, among-push, push-among, among-without, without-among, order-push, order-without, order-same, first-earliest}
 
@@ -164,7 +165,7 @@ pub in-turn : InTurn
 in-turn n h last d t j m i k e fi fk wk apart =
     let at = queued-dated d in
     let taken = fixed-takes (opened h) i (run-taken h t j i m e .1) (T-true (isFixed (h .place i)) fi) in
-    let may = in-turn-is (rankWants (opened h) (topRank (opened h))) (h .turn) i (taken .1) in
+    let may = in-turn-may (rankWants (opened h) (topRank (opened h))) (h .turn) i (taken .1) in
     let rank-i = rank-wants-parts (opened h) (topRank (opened h)) i may .1 in
     let fixed-k = T-true (isFixed (h .place k)) fk in
     let task-k = fixed-task (h .place k) fixed-k in

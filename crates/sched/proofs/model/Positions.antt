@@ -14,7 +14,8 @@ use Rattle.std.specs.declared.option.Option.{Option}
 use Rattle.sched.proofs.Puts.{put-else, put-both}
 use Rattle.sched.proofs.Bounded.{some-from, none-at, first-is}
 use Rattle.sched.proofs.Fractions.{le-trans-frac}
-use Rattle.sched.proofs.model.TakeWays.{runner-same, run-taken, fair-takes}
+use Rattle.sched.proofs.model.Runner.{runner-same}
+use Rattle.sched.proofs.model.TakeWays.{run-taken, fair-takes}
 use Rattle.sched.proofs.model.CallWays.{Ways, call-ways}
 use Rattle.sched.proofs.model.Position.{Position, less-far-true, less-far-false, position-made, position-joined, position-marked, position-stepped, position-either}
 
@@ -98,7 +99,7 @@ fair-heavy h i e = ltb-true 0 (weightOf (h .place i)) (and-parts (ltb 0 (weightO
 
 -- joining is no matter for who wants
 pub wants-joined : (h : House) (i : ℕ) → fairWants (joined h) i ≡ fairWants h i
-wants-joined h i = rw (runner-same (joined h) h (λ _. refl) (λ _. refl) 64 i) refl
+wants-joined h i = rw (runner-same h (joined h) (λ _. refl) (λ _. refl) 64 i) refl
 
 pub positions-opened : (h : House) → PositionsOf h → Positions (h .place) (opened h .far) (opened h .rest) (h .markFar) (h .markRest) (h .markOver) (fairWants (opened h))
 positions-opened h at = positions-joined (windowed h) (fairWants (opened h)) (λ i e. sym (wants-joined (windowed h) i) ∙ e) at
