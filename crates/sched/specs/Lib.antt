@@ -4,4 +4,5 @@ pub mod Nearer
 pub mod Policy
 pub mod Promise
 pub mod Quotas
+pub mod Stores
 pub mod Windows

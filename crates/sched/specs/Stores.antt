@@ -1,0 +1,94 @@
+-- What the scheduler keeps, against the house of the rules: each array beside the function that it stands for.
+-- Assumes nothing.
+use mathlib.Core.Path.{_≡_}
+use mathlib.Core.Logic.{_⊎_}
+use mathlib.Core.Bool.{Bool, true, false, cond, _&&_}
+use mathlib.Core.List.{List, [], _∷_}
+use Prim.Native.Nat.{ℕ, suc, _+_, _<_}
+use lib.Dec.{eqb}
+use lib.ListN.{length, getD}
+use Rattle.std.specs.declared.option.Option.{Option}
+use Rattle.std.specs.declared.option.Option.the-variants.{Some, None}
+use Rattle.quantities.specs.declared.ids.TaskId.{TaskId}
+use Rattle.queues.specs.Rings as queue
+use Rattle.virtual_time.specs.declared.position.Position.{Position}
+use Rattle.windows.specs.declared.Window as code-window
+use Rattle.windows.specs.declared.Window.the-variants as window-is
+use Rattle.sched.specs.declared.Scheduler.{Scheduler}
+use Rattle.sched.specs.declared.Kind.{Kind}
+use Rattle.sched.specs.declared.Kind.the-variants.{Reserved, Fixed, Fair}
+use Rattle.sched.specs.declared.promise.Promise.{Promise}
+use Rattle.sched.specs.declared.promise.Promise.the-variants as promised
+use Rattle.sched.specs.declared.tasks.Slot.{Slot}
+use Rattle.sched.specs.declared.tasks.Slot.the-variants as slot
+use Rattle.sched.specs.declared.fair.Fair as code-fair
+use Rattle.sched.specs.House.{House, Place, Nobody, A, Kept, Window, Shut, Open, isFixed, rankOf, weightOf}
+use Rattle.sched.specs.Promise.{Comes}
+use Rattle.sched.specs.Quotas.{Quotas}
+
+-- a promise, as the kind of task that it is made to
+unfoldable pub kindOf : Promise → Kind
+kindOf (promised.Reserved r) = Reserved (r .quota) (r .period)
+kindOf (promised.Fixed r) = Fixed (r .value)
+kindOf (promised.Fair w) = Fair (w .value)
+
+-- who is at a place
+unfoldable pub placeOf : Slot → Place
+placeOf slot.Free = Nobody
+placeOf (slot.Task p) = A (kindOf p)
+placeOf (slot.Kept r) = Kept (r .quota) (r .period)
+
+-- a lock's owner: 0, or 1 and the task
+unfoldable pub ownerOf : Option TaskId → ℕ
+ownerOf None = 0
+ownerOf (Some i) = suc (i .index)
+
+unfoldable pub windowOf : code-window.Window → Window
+windowOf window-is.Shut = Shut
+windowOf (window-is.Open s) = Open (s .ends) (s .got) (s .whole)
+
+-- An array of 64 stands for a function: what is read at i means f i, and past the end the default does.
+pub record Reads {X Y : Type 0} (mean : X → Y) (none : X) (xs : List X) (f : ℕ → Y) : Type 0 where
+  pub len : length xs ≡ 64
+  pub at : (i : ℕ) → mean (getD xs i none) ≡ f i
+
+-- those of a list that pass
+unfoldable pub keep : (ℕ → Bool) → List ℕ → List ℕ
+keep f [] = []
+keep f (i ∷ is) = cond (f i) (i ∷ keep f is) (keep f is)
+
+abbrev pub ofRank : (ℕ → Place) → ℕ → ℕ → Bool
+ofRank place r i = isFixed (place i) && eqb (rankOf (place i)) r
+
+-- A position is kept less a base that no code holds: exactly, or, of one that fell behind the base, as 0 and 0.
+abbrev pub Near : (base far rest whole part : ℕ) → Type 0
+Near base far rest whole part = ((far ≡ base + whole) × (rest ≡ part)) ⊎ ((far < base) × (whole ≡ 0) × (part ≡ 0))
+
+-- How far fair tasks are, and the mark. The mark is low, so that nothing ever comes round.
+pub record Fairly (f : code-fair.Fair) (place : ℕ → Place) (far rest : ℕ → ℕ) (markFar markRest markOver : ℕ) (wanted : ℕ → Bool) : Type 0 where
+  pub base : ℕ
+  pub flags : Reads (λ (b : Bool). b) false (f .wanted) wanted
+  pub len : length (f .positions) ≡ 64
+  pub weight : (i : ℕ) (d : Position) → i < 64 → 0 < weightOf (place i) → getD (f .positions) i d .weight .value ≡ weightOf (place i)
+  pub each : (i : ℕ) (d : Position) → i < 64 → 0 < weightOf (place i) → Near base (far i) (rest i) (getD (f .positions) i d .whole) (getD (f .positions) i d .rest)
+  pub whole : markFar ≡ base + f .mark .whole
+  pub part : markRest ≡ f .mark .rest
+  pub over : markOver ≡ f .mark .weight .value
+  pub low : f .mark .whole < 1024
+
+-- Field by field. Whom a task waits for needs no array: who waits stands in the lock's row.
+pub record Stores (s : Scheduler) (h : House) : Type 0 where
+  pub slots : Reads placeOf slot.Free (s .tasks .slots) (h .place)
+  pub awake : Reads (λ (b : Bool). b) false (s .tasks .awake) (h .awake)
+  pub owners : Reads ownerOf None (s .locks .owners) (h .owner)
+  pub rows : queue.Holds (s .locks .waiters) (h .row)
+  pub windows : Reads windowOf window-is.Shut (s .reserved .windows) (h .window)
+  -- the code keeps the turn of each rank, the rules one of all tasks
+  pub turn : queue.Holds (s .fixed .turn) (λ r. keep (ofRank (h .place) r) (h .turn))
+  pub fair : Fairly (s .fair) (h .place) (h .far) (h .rest) (h .markFar) (h .markRest) (h .markOver) (h .wanted)
+
+-- The scheduler stands for the house: it has come about by the rules, quotas are covered, and the arrays say so.
+pub record Holds (s : Scheduler) (h : House) : Type 0 where
+  pub comes : Comes h
+  pub quotas : Quotas (h .place) (h .window)
+  pub stores : Stores s h
