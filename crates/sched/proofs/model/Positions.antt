@@ -1,7 +1,7 @@
 -- How far all fair tasks are, kept by every call and every tick: what fairness rests on.
 use mathlib.Core.Path.{_≡_, refl, sym, _∙_}
 use mathlib.Core.Logic.{_⊎_, inl, inr, ⊎-elim}
-use mathlib.Core.Bool.{Bool, true, false, cond, _&&_, not}
+use mathlib.Core.Bool.{Bool, true, false, cond}
 use Prim.Native.Nat.{ℕ, suc, _+_, _-_, _*_, _/_, _%_, _<_, _≤_}
 use native.Mathlib.Nat.{le-refl, le-of-lt}
 use native.Mathlib.Omega.{arith}
@@ -134,14 +134,14 @@ module _ (h : House) (at : Positions (h .place) (h .far) (h .rest) (h .markFar) 
   -- nobody who wants is behind the least far
   pub least-behind : (i j : ℕ) → leastFar h i ≡ true → fairWants h j ≡ true → partsOf h i * weightOf (h .place j) ≤ partsOf h j * weightOf (h .place i)
   least-behind i j e w =
-      let wanting = and-parts (fairWants h i) (not (some' 64 (λ (k : ℕ). fairWants h k && nearer h k i))) e in
-      let none = not-true (some' 64 (λ (k : ℕ). fairWants h k && nearer h k i)) (wanting .1) in
-      let behind : nearer h j i ≡ false = rw w at (none-at (λ (k : ℕ). fairWants h k && nearer h k i) 64 j none (at .within j (fair-heavy h j w))) in
+      let wanting = and-parts (fairWants h i) _ e in
+      let none = none-at _ 64 j (not-true _ (wanting .1)) (at .within j (fair-heavy h j w)) in
+      let behind : nearer h j i ≡ false = rw w at none in
       less-far-false (h .far j) (h .rest j) (weightOf (h .place j)) (h .far i) (h .rest i) (weightOf (h .place i))
       (at .each j (fair-heavy h j w) .proper) (at .each i (fair-heavy h i (wanting .0)) .proper) behind
 
   least-wants : (i : ℕ) → leastFar h i ≡ true → fairWants h i ≡ true
-  least-wants i e = and-parts (fairWants h i) (not (some' 64 (λ (k : ℕ). fairWants h k && nearer h k i))) e .0
+  least-wants i e = and-parts (fairWants h i) _ e .0
 
   least-first : some' 64 (leastFar h) ≡ true → leastFar h (first' h) ≡ true
   least-first e = first-is (leastFar h) 64 e
