@@ -1,15 +1,14 @@
 -- A state to which a member is appended that stood in no queue stands for the queues with it put last in one.
 use mathlib.Core.Path.{_≡_, refl, sym, ap, _∙_, subst}
 use mathlib.Core.Logic.{_⊎_, inl, inr}
-use mathlib.Core.Bool.{cond}
 use mathlib.Core.List.{List, [], _∷_, _++_}
 use Prim.Native.Nat.{ℕ, _≤_, _<_}
 use native.Mathlib.Omega.{arith}
-use lib.Dec.{eqb}
-use Rattle.std.proofs.shelf.Tests.{cases-eq, eq-eqb, ne-eqb, cond-both, eqb-true, eqb-false}
+use Rattle.std.proofs.shelf.Tests.{cases-eq, eq-eqb, ne-eqb}
 use Rattle.queues.specs.declared.fifo.Queues.{Queues}
 use Rattle.queues.specs.Members.{Member, Free, times, put}
-use Rattle.queues.specs.Rings.{Holds, Linked, Ring, after, before, placeOf, setPlace, joined, appended}
+use Rattle.queues.specs.Rings.{Holds, Linked, Ring, after, before, placeOf}
+use Rattle.queues.specs.Writes.{setPlace, joined, appended}
 use Rattle.queues.proofs.Lists.{times-none, member-push, push-member, push-last, times-push}
 use Rattle.queues.proofs.Writes.{Sized, sized, Apart, Joins, joins, apart-after, place-leaves, place-here, place-else, place-sized}
 use Rattle.queues.proofs.Chains.{ring-ends, ring-last, ring-kept, ring-with}

@@ -2,15 +2,14 @@
 use mathlib.Core.Path.{_≡_, refl, sym, ap, _∙_, subst}
 use mathlib.Core.Logic.{_⊎_, inl, inr}
 use mathlib.Core.List.{List, [], _∷_, _++_}
-use Prim.Native.Nat.{ℕ, _≤_, _<_}
-use native.Mathlib.Omega.{arith}
+use Prim.Native.Nat.{ℕ, _≤_}
 use Rattle.std.proofs.shelf.Tests.{cases-eq, eq-eqb, ne-eqb}
 use Rattle.queues.specs.declared.fifo.Queues.{Queues}
 use Rattle.queues.specs.Members.{Member, times, without}
 use Rattle.queues.specs.Rings.{after, before, Linked, Ring}
 use Rattle.queues.proofs.Lists.{first-once, times-rest, without-none}
 
--- NEIGHBOURS
+-- neighbours in a ring
 module _ (s : Queues) (q : ℕ) where
   -- who comes after a comes after it, seen from either side
   pub ring-starts : (a : ℕ) (xs : List ℕ) → Ring s q a xs → Linked s q a (after s q a)

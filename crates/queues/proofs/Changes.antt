@@ -1,15 +1,16 @@
 -- What the calls that change the queues come to.
 use mathlib.Core.Path.{_≡_, refl, sym, ap, _∙_, subst}
-use mathlib.Core.Logic.{_⊎_, inl, inr}
-use mathlib.Core.Bool.{true, false, cond}
+use mathlib.Core.Logic.{inl, inr}
+use mathlib.Core.Bool.{true, false}
 use mathlib.Core.List.{List, [], _∷_, _++_}
 use Prim.Native.Nat.{ℕ, _≤_, _<_}
 use Rattle.std.proofs.shelf.Tests.{cases-eq, eq-eqb, ne-eqb}
 use Rattle.queues.specs.declared.fifo.Queues.{Queues}
 use Rattle.queues.specs.Members.{Member, Free, times, rest, without, put}
-use Rattle.queues.specs.Rings.{Holds, appended, unlinked}
+use Rattle.queues.specs.Rings.{Holds}
+use Rattle.queues.specs.Writes.{appended, unlinked}
 use Rattle.queues.specs.Outcomes.{Pushed, Removed, Moved}
-use Rattle.queues.proofs.Lists.{first-once, without-none, not-without, member-without}
+use Rattle.queues.proofs.Lists.{first-once, without-none, not-without}
 use Rattle.queues.proofs.Standing.{in-one, holds-same}
 use Rattle.queues.proofs.Removal.{unlinked-holds}
 use Rattle.queues.proofs.Arrival.{appended-holds}

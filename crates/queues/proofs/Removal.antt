@@ -1,13 +1,14 @@
 -- A state from which a member is unlinked stands for the queues without it.
-use mathlib.Core.Path.{_≡_, refl, sym, ap, _∙_, subst}
+use mathlib.Core.Path.{_≡_, sym, ap, _∙_, subst}
 use mathlib.Core.Logic.{_⊎_, inl, inr}
-use mathlib.Core.List.{List, [], _∷_, _++_}
-use Prim.Native.Nat.{ℕ, _≤_, _<_}
+use mathlib.Core.List.{List}
+use Prim.Native.Nat.{ℕ, _<_}
 use native.Mathlib.Omega.{arith}
 use Rattle.std.proofs.shelf.Tests.{cases-eq}
 use Rattle.queues.specs.declared.fifo.Queues.{Queues}
-use Rattle.queues.specs.Members.{Member, times, without}
-use Rattle.queues.specs.Rings.{Holds, Linked, Ring, after, before, placeOf, setPlace, joined, unlinked}
+use Rattle.queues.specs.Members.{Member, without}
+use Rattle.queues.specs.Rings.{Holds, Linked, Ring, after, before, placeOf}
+use Rattle.queues.specs.Writes.{setPlace, joined, unlinked}
 use Rattle.queues.proofs.Lists.{without-none, member-without, not-without, without-member, times-without}
 use Rattle.queues.proofs.Writes.{Sized, Joins, joins, apart-after, apart-before, place-leaves, place-here, place-else, place-sized, sized}
 use Rattle.queues.proofs.Chains.{ring-around, ring-kept, ring-without}

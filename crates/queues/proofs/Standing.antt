@@ -1,10 +1,10 @@
 -- What follows for everybody from the fact that a state stands for queues: for callers, and for the proofs of the calls.
-use mathlib.Core.Path.{_≡_, refl, sym, ap, _∙_, subst, fun-ext}
-use mathlib.Core.List.{List, [], _∷_, _++_}
+use mathlib.Core.Path.{_≡_, sym, _∙_, subst, fun-ext}
+use mathlib.Core.List.{List}
 use Prim.Native.Nat.{ℕ, _≤_, _<_}
 use Rattle.queues.specs.declared.fifo.Queues.{Queues}
-use Rattle.queues.specs.Members.{Member, Free, times}
-use Rattle.queues.specs.Rings.{Holds, placeOf}
+use Rattle.queues.specs.Members.{Member, times}
+use Rattle.queues.specs.Rings.{Holds}
 
 module _ {s : Queues} {f : ℕ → List ℕ} (h : Holds s f) where
   -- nobody stands in two queues

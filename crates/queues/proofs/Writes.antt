@@ -1,18 +1,17 @@
 -- What each write leaves of the rings: where it wrote, and everywhere else.
-use mathlib.Core.Path.{_≡_, refl, sym, ap, _∙_, subst}
-use mathlib.Core.Logic.{_⊎_, inl, inr, _≢_}
-use mathlib.Core.Bool.{Bool, true, false, cond}
-use mathlib.Core.List.{List, [], _∷_}
+use mathlib.Core.Path.{_≡_, refl, sym, ap, _∙_}
+use mathlib.Core.Logic.{inl, inr}
+use mathlib.Core.List.{List}
 use Prim.Native.Nat.{ℕ, _≤_, _<_}
 use native.Mathlib.Omega.{arith}
-use lib.Dec.{ltb}
 use lib.ListN.{length, getD, set, length-set}
 use Rattle.std.proofs.shelf.Lists.{getD-set-same, getD-set-other, set-past}
 use Rattle.std.proofs.shelf.Tests.{cases-eq, cases-lt, lt-ltb, le-ltb}
 use Rattle.queues.specs.declared.fifo.Link.{Link}
 use Rattle.queues.specs.declared.fifo.Ends.{Ends}
 use Rattle.queues.specs.declared.fifo.Queues.{Queues}
-use Rattle.queues.specs.Rings.{linkOf, endsOf, placeOf, after, before, Linked, setLink, setEnds, setAfter, setBefore, setPlace, joined}
+use Rattle.queues.specs.Rings.{linkOf, endsOf, placeOf, after, before, Linked}
+use Rattle.queues.specs.Writes.{setLink, setEnds, setAfter, setBefore, setPlace, joined}
 
 -- a write leaves alone what it writes as it was
 field-kept : {X : Type 0} {Y : Type 0} (g : X → Y) (xs : List X) (i j : ℕ) (x d : X) → g x ≡ g (getD xs i d) → g (getD (set xs i x) j d) ≡ g (getD xs j d)

@@ -1,3 +1,4 @@
 pub mod Members
 pub mod Rings
+pub mod Writes
 pub mod Outcomes

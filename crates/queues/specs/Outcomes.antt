@@ -9,13 +9,19 @@ use Rattle.std.specs.declared.option.Option.{Option}
 use Rattle.quantities.specs.declared.ids.TaskId.{TaskId}
 use Rattle.queues.specs.Members.{Member, Free, rest, without, put}
 use Rattle.queues.specs.Rings.{Holds}
+use Rattle.queues.specs.declared.queue_id.QueueId.{QueueId}
 use Rattle.queues.specs.declared.fifo.Queues.{Queues}
 
 -- r is the first of the list, if it has one
 abbrev pub First : List ℕ → Option TaskId → Type 0
 First xs r = BySome r (xs ≡ []) (λ t. xs ≡ (t .index ∷ rest xs))
 
--- i is put last in q if it stood in no queue: t is what s became, and r the answer
+-- r is the one queue in which i stands, if it stands in one
+abbrev pub StandsIn : (ℕ → List ℕ) → ℕ → Option QueueId → Type 0
+StandsIn f i r = BySome r (Free f i) (λ q. Member i (f (q .index)) × ((p : ℕ) → Member i (f p) → p ≡ q .index))
+
+-- The state stood for f and is now t, and r is the answer.
+-- i is put last in q, unless it stood in a queue
 pub record Pushed (t : Queues) (f : ℕ → List ℕ) (q i : ℕ) (r : Bool) : Type 0 where
   pub free : Free f i → r ≡ true
   pub stood : (p : ℕ) → Member i (f p) → r ≡ false

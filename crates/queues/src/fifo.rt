@@ -1,13 +1,14 @@
 // The queues as links between neighbours, in one array of members and one of ends.
-// A queue is a ring: 64, for none, follows its last member and comes before its first.
+// A queue is a ring through 64, which stands for nobody: it comes after the last member and before the first.
 ghost use mathlib.Core.Path.{_≡_};
 ghost use mathlib.Core.Bool.{true, false};
 ghost use mathlib.Core.List.{List, [], _∷_, _++_};
 ghost use Prim.Native.Nat.{ℕ};
-ghost use Rattle.std.specs.Options.{Cases as BySome};
-ghost use Rattle.queues.specs.Members.{Member, Free, rest, put};
-ghost use Rattle.queues.specs.Rings.{Holds, setAfter, setBefore, joined, appended, unlinked};
-ghost use Rattle.queues.specs.Outcomes.{First, Pushed, Removed, Moved};
+ghost use Rattle.std.specs.Options.{isSome};
+ghost use Rattle.queues.specs.Members.{Free, rest, put};
+ghost use Rattle.queues.specs.Rings.{Holds};
+ghost use Rattle.queues.specs.Writes.{setAfter, setBefore, joined, appended, unlinked};
+ghost use Rattle.queues.specs.Outcomes.{First, StandsIn, Pushed, Removed, Moved};
 use crate::queue_id::QueueId;
 use quantities::ids::TaskId;
 
@@ -63,10 +64,10 @@ impl Queues {
     // Who stands right behind i.
     pub fn next(&self, i: TaskId) -> Option<TaskId>
         ensures behind { λ r. ⌜ ((f : ℕ → List ℕ) → Holds (now (self .entry)) f → (q : ℕ) (xs ys : List ℕ) → f q ≡ xs ++ (i .index ∷ ys) → First ys r) ⌝ }
-        ensures free { λ r. ⌜ ((f : ℕ → List ℕ) → Holds (now (self .entry)) f → Free f (i .index) → BySome r (Unit {0}) (λ _. ⊥)) ⌝ }
+        ensures free { λ r. ⌜ ((f : ℕ → List ℕ) → Holds (now (self .entry)) f → Free f (i .index) → isSome r ≡ false) ⌝ }
     {
         let link = self.links[i.index()];
-        if link.at >= 64 {
+        if link.at >= NONE {
             return None;
         }
         TaskId::new(link.next as u32)
@@ -74,7 +75,7 @@ impl Queues {
 
     // The queue in which i stands.
     pub fn queue_of(&self, i: TaskId) -> Option<QueueId>
-        ensures { λ r. ⌜ ((f : ℕ → List ℕ) → Holds (now (self .entry)) f → BySome r (Free f (i .index)) (λ q. Member (i .index) (f (q .index)) × ((p : ℕ) → Member (i .index) (f p) → p ≡ q .index))) ⌝ }
+        ensures { λ r. ⌜ ((f : ℕ → List ℕ) → Holds (now (self .entry)) f → StandsIn f (i .index) r) ⌝ }
     {
         QueueId::new(self.links[i.index()].at as u32)
     }
@@ -84,7 +85,7 @@ impl Queues {
         ensures after { λ r. ⌜ ((f : ℕ → List ℕ) → Holds (now (self .entry)) f → Pushed (now (self .exit)) f (q .index) (i .index) r) ⌝ }
         ensures same { λ r. ⌜ (r ≡ false → now (self .exit) ≡ now (self .entry)) ⌝ }
     {
-        if self.links[i.index()].at < 64 {
+        if self.links[i.index()].at < NONE {
             return false;
         }
         self.append(q, i);
@@ -95,7 +96,7 @@ impl Queues {
     pub fn pop_front(&mut self, q: QueueId) -> Option<TaskId>
         ensures value { λ r. ⌜ ((f : ℕ → List ℕ) → Holds (now (self .entry)) f → First (f (q .index)) r) ⌝ }
         ensures after { λ r. ⌜ ((f : ℕ → List ℕ) → Holds (now (self .entry)) f → Holds (now (self .exit)) (put (q .index) (rest (f (q .index))) f)) ⌝ }
-        ensures same { λ r. ⌜ BySome r (now (self .exit) ≡ now (self .entry)) (λ _. Unit {0}) ⌝ }
+        ensures same { λ r. ⌜ (isSome r ≡ false → now (self .exit) ≡ now (self .entry)) ⌝ }
     {
         let Some(i) = self.front(q) else {
             return None;
@@ -161,7 +162,7 @@ impl Queues {
     fn set_next(&mut self, q: QueueId, a: u8, b: u8)
         ensures { λ _. ⌜ now (self .exit) ≡ setAfter (q .index) a b (now (self .entry)) ⌝ }
     {
-        if a < 64 {
+        if a < NONE {
             self.links[a as usize].next = b;
         } else {
             self.ends[q.index()].head = b;
@@ -171,7 +172,7 @@ impl Queues {
     fn set_prev(&mut self, q: QueueId, b: u8, a: u8)
         ensures { λ _. ⌜ now (self .exit) ≡ setBefore (q .index) b a (now (self .entry)) ⌝ }
     {
-        if b < 64 {
+        if b < NONE {
             self.links[b as usize].prev = a;
         } else {
             self.ends[q.index()].tail = a;

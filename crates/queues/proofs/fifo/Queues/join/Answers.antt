@@ -1,6 +1,6 @@
 -- Both writes, one after the other.
-use mathlib.Core.Path.{_≡_, ap, _∙_}
-use Rattle.queues.specs.Rings.{joined, setBefore}
+use mathlib.Core.Path.{ap, _∙_}
+use Rattle.queues.specs.Writes.{joined, setBefore}
 use Rattle.queues.proofs.fifo.Queues.join.Needs as need
 
 pub returns : need.returns

@@ -1,6 +1,7 @@
+-- First out of its queue, then last in it.
 use mathlib.Core.Path.{refl, ap, _∙_}
 use Rattle.std.proofs.shelf.Tests.{true≢false}
-use Rattle.queues.specs.Rings.{appended}
+use Rattle.queues.specs.Writes.{appended}
 use Rattle.queues.proofs.Changes.{moved, not-moved}
 use Rattle.queues.proofs.fifo.Queues.move_to_back.Needs as need
 

@@ -1,5 +1,7 @@
-use Rattle.queues.proofs.Told.{new-holds}
+-- Every link and every pair of ends is the one that the array repeats.
+use mathlib.Core.Path.{refl}
+use Rattle.queues.proofs.Told.{empty-holds}
 use Rattle.queues.proofs.fifo.Queues.new.Needs as need
 
 pub returns : need.returns
-returns c = new-holds
+returns c = empty-holds _ _ refl refl refl

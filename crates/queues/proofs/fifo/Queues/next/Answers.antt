@@ -1,14 +1,16 @@
+-- Who has a place has its ring's next behind it; who has none stands in no queue.
+use mathlib.Core.Path.{refl}
 use Rattle.queues.proofs.Told.{next-told, none-behind, some-place}
 use Rattle.queues.proofs.fifo.Queues.next.Needs as need
 
-pub returns-then-link-ge64 : need.returns-then-link-ge64
-returns-then-link-ge64 c = record {
-  behind = λ f h q xs ys e. none-behind h q (c .args .i .index) (c .index .result) xs ys e (c .index .ensures .value) (c .if-link-ge64 .taken);
-  free = λ f h free. tt;
+pub returns-then-link-ge-NONE : need.returns-then-link-ge-NONE
+returns-then-link-ge-NONE c = record {
+  behind = λ f h q xs ys e. none-behind h q (c .args .i .index) (c .index .result) _ xs ys e (c .index .ensures .value) (c .if-link-ge-NONE .taken) refl;
+  free = λ f h free. refl;
 }
 
 pub returns : need.returns
 returns c = record {
-  behind = λ f h q xs ys e. next-told h q (c .args .i .index) (c .index .result) xs ys (c .new .result) e (c .index .ensures .value) (c .new .ensures);
-  free = λ f h free. absurd (some-place h (c .args .i .index) (c .index .result) (c .args .i .within) (c .index .ensures .value) (c .if-link-ge64 .left) free);
+  behind = λ f h q xs ys e. next-told h q (c .args .i .index) (c .index .result) _ xs ys (c .new .result) e (c .index .ensures .value) (c .new .ensures) refl;
+  free = λ f h free. absurd (some-place h (c .args .i .index) (c .index .result) _ (c .args .i .within) (c .index .ensures .value) (c .if-link-ge-NONE .left) refl free);
 }

@@ -1,3 +1,4 @@
+-- Who stands in a queue is unlinked from it; who stands in none is in no list to be taken out of.
 use mathlib.Core.Path.{refl}
 use Rattle.std.proofs.shelf.Tests.{true≢false}
 use Rattle.queues.proofs.Changes.{removed, not-removed}
