@@ -1,5 +1,6 @@
 pub mod Admission
 pub mod Idle
+pub mod InTurn
 pub mod Lending
 pub mod Nearest
 pub mod Quarter

@@ -1,6 +1,7 @@
 // Theorems on the rules in the subject's own words, each a contract.
 ghost use Rattle.promises.specs.Admission.{Admits};
 ghost use Rattle.promises.specs.Idle.{IdleOnlyIfUnwanted};
+ghost use Rattle.promises.specs.InTurn.{InTurn};
 ghost use Rattle.promises.specs.Lending.{Lends};
 ghost use Rattle.promises.specs.Nearest.{NearestEachOther, EqualsKeepPace};
 ghost use Rattle.promises.specs.Quarter.{QuarterLeft};
@@ -67,6 +68,13 @@ pub fn nearest_each_other() -> u8
 // Of two of one weight neither is more than two ticks ahead.
 pub fn equals_keep_pace() -> u8
     ensures { λ _. ⌜ EqualsKeepPace ⌝ }
+{
+    0
+}
+
+// Of fixed tasks that want a tick it is one's of the first rank, and of these whose last tick, or whose making if it had none, is the longest ago.
+pub fn in_turn() -> u8
+    ensures { λ _. ⌜ InTurn ⌝ }
 {
     0
 }

@@ -1,7 +1,7 @@
 -- How far all fair tasks are, kept by every call and every tick: what fairness rests on.
 use mathlib.Core.Path.{_≡_, refl, sym, _∙_}
 use mathlib.Core.Logic.{_⊎_, inl, inr, ⊎-elim}
-use mathlib.Core.Bool.{Bool, true, false, cond, _&&_, not}
+use mathlib.Core.Bool.{Bool, true, false, cond}
 use Prim.Native.Nat.{ℕ, suc, _+_, _-_, _*_, _/_, _%_, _<_, _≤_}
 use native.Mathlib.Nat.{le-refl, le-of-lt}
 use native.Mathlib.Omega.{arith}
@@ -14,7 +14,8 @@ use Rattle.std.specs.declared.option.Option.{Option}
 use Rattle.sched.proofs.Puts.{put-else, put-both}
 use Rattle.sched.proofs.Bounded.{some-from, none-at, first-is}
 use Rattle.sched.proofs.Fractions.{le-trans-frac}
-use Rattle.sched.proofs.model.TakeWays.{runner-same, run-taken, fair-takes}
+use Rattle.sched.proofs.model.Runner.{runner-same}
+use Rattle.sched.proofs.model.TakeWays.{run-taken, fair-takes}
 use Rattle.sched.proofs.model.CallWays.{Ways, call-ways}
 use Rattle.sched.proofs.model.Position.{Position, less-far-true, less-far-false, position-made, position-joined, position-marked, position-stepped, position-either}
 
@@ -98,7 +99,7 @@ fair-heavy h i e = ltb-true 0 (weightOf (h .place i)) (and-parts (ltb 0 (weightO
 
 -- joining is no matter for who wants
 pub wants-joined : (h : House) (i : ℕ) → fairWants (joined h) i ≡ fairWants h i
-wants-joined h i = rw (runner-same (joined h) h (λ _. refl) (λ _. refl) 64 i) refl
+wants-joined h i = rw (runner-same h (joined h) (λ _. refl) (λ _. refl) 64 i) refl
 
 pub positions-opened : (h : House) → PositionsOf h → Positions (h .place) (opened h .far) (opened h .rest) (h .markFar) (h .markRest) (h .markOver) (fairWants (opened h))
 positions-opened h at = positions-joined (windowed h) (fairWants (opened h)) (λ i e. sym (wants-joined (windowed h) i) ∙ e) at
@@ -133,14 +134,14 @@ module _ (h : House) (at : Positions (h .place) (h .far) (h .rest) (h .markFar) 
   -- nobody who wants is behind the least far
   pub least-behind : (i j : ℕ) → leastFar h i ≡ true → fairWants h j ≡ true → partsOf h i * weightOf (h .place j) ≤ partsOf h j * weightOf (h .place i)
   least-behind i j e w =
-      let wanting = and-parts (fairWants h i) (not (some' 64 (λ (k : ℕ). fairWants h k && nearer h k i))) e in
-      let none = not-true (some' 64 (λ (k : ℕ). fairWants h k && nearer h k i)) (wanting .1) in
-      let behind : nearer h j i ≡ false = rw w at (none-at (λ (k : ℕ). fairWants h k && nearer h k i) 64 j none (at .within j (fair-heavy h j w))) in
+      let wanting = and-parts (fairWants h i) _ e in
+      let none = none-at _ 64 j (not-true _ (wanting .1)) (at .within j (fair-heavy h j w)) in
+      let behind : nearer h j i ≡ false = rw w at none in
       less-far-false (h .far j) (h .rest j) (weightOf (h .place j)) (h .far i) (h .rest i) (weightOf (h .place i))
       (at .each j (fair-heavy h j w) .proper) (at .each i (fair-heavy h i (wanting .0)) .proper) behind
 
   least-wants : (i : ℕ) → leastFar h i ≡ true → fairWants h i ≡ true
-  least-wants i e = and-parts (fairWants h i) (not (some' 64 (λ (k : ℕ). fairWants h k && nearer h k i))) e .0
+  least-wants i e = and-parts (fairWants h i) _ e .0
 
   least-first : some' 64 (leastFar h) ≡ true → leastFar h (first' h) ≡ true
   least-first e = first-is (leastFar h) 64 e

@@ -7,7 +7,7 @@ use native.Mathlib.Omega.{arith}
 use lib.Dec.{eqb, ltb, T}
 use Rattle.std.specs.declared.option.Option.the-variants.{Some, None}
 use Rattle.std.proofs.shelf.Tests.{cond-both, and-parts, eqb-true, ltb-true, not-true}
-use Rattle.sched.specs.House.{House, some', isFixed, isReserved, isTask, weightOf, rankOf, quotaOf, gotOf, wants, due, rankWants, fairWants, nearer, leastFar, topRank, inTurn, runner, mayTake, mayRest, mayRun, kept, opened, numberOf}
+use Rattle.sched.specs.House.{House, some', isFixed, isReserved, isTask, weightOf, rankOf, quotaOf, gotOf, wants, due, rankWants, fairWants, leastFar, topRank, inTurn, runner, mayTake, mayRest, mayRun, kept, opened, numberOf}
 use Rattle.sched.proofs.Tests.{T-true, and-three}
 use Rattle.sched.proofs.model.Runner.{runner-same}
 
@@ -30,7 +30,7 @@ module _ (g : House) (i : ℕ) where
         cond-both (some' 64 (due g)) (due g i) _ (λ b. b ≡ true → wants g i ≡ true) (λ _ d. and-three (isReserved (g .place i)) (wants g i) (ltb (gotOf (g .window i)) (quotaOf (g .place i))) d .1)
             (λ _. cond-both (some' 16 (λ (r : ℕ). some' 64 (rankWants g r))) (eqb (suc i) (inTurn (rankWants g (topRank g)) (g .turn))) (leastFar g i) (λ b. b ≡ true → wants g i ≡ true)
             (λ _ d. fixed-wants (topRank g) (in-turn (rankWants g (topRank g)) (g .turn) i (sym (eqb-true _ _ d))))
-            (λ _ d. and-parts (ltb 0 (weightOf (g .place i))) (wants g i) (and-parts (fairWants g i) (not (some' 64 (λ (j : ℕ). fairWants g j && nearer g j i))) d .0) .1))
+            (λ _ d. and-parts (ltb 0 (weightOf (g .place i))) (wants g i) (and-parts (fairWants g i) _ d .0) .1))
             (p .1),
       )
 
