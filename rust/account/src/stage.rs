@@ -1,0 +1,188 @@
+//! Runs a program on a script.
+
+use std::fs::OpenOptions;
+use std::io::{self, Read, Write};
+use std::path::Path;
+use std::process::{Child, ChildStdin, ChildStdout, Command, ExitStatus, Stdio};
+use std::sync::mpsc::{channel, Receiver, Sender};
+use std::thread;
+use std::time::{Duration, Instant};
+
+use crate::script::{answers_to, lines};
+
+/// How long a program may take.
+#[derive(Clone, Copy, Debug)]
+pub struct Patience(pub Duration);
+
+/// Runs a program on a script and hands back what it printed.
+///
+/// The script is written in pieces that end at the given offsets. After each
+/// piece, the answers to all its complete lines are waited for before the next
+/// is written. An error tells what went wrong, if the program could be run.
+pub fn run(
+    program: &Path,
+    script: &[u8],
+    pauses: &[usize],
+    patience: Patience,
+) -> io::Result<Result<Vec<u8>, String>> {
+    let mut child = Command::new(program)
+        .stdin(Stdio::piped())
+        .stdout(Stdio::piped())
+        .stderr(Stdio::null())
+        .spawn()?;
+    let input = child.stdin.take().expect("a pipe");
+    let output = child.stdout.take().expect("a pipe");
+    let (sender, pieces) = channel();
+    let reader = thread::spawn(move || read(output, &sender));
+    let verdict = talk(input, script, pauses, &pieces, Instant::now() + patience.0);
+    if verdict.is_err() {
+        child.kill()?;
+    }
+    let status = wait(&mut child, patience)?;
+    reader.join().expect("the reader ends");
+    Ok(verdict.and_then(|transcript| match status.code() {
+        Some(0) => Ok(transcript),
+        _ => Err(format!("found {status}, expected exit status 0")),
+    }))
+}
+
+/// Sends on what a program prints.
+fn read(mut output: ChildStdout, pieces: &Sender<Vec<u8>>) {
+    let mut buffer = vec![0; 1 << 16];
+    while let Ok(count @ 1..) = output.read(&mut buffer) {
+        if pieces.send(buffer[..count].to_vec()).is_err() {
+            break;
+        }
+    }
+}
+
+/// Writes the script in pieces, and reads what is printed for it.
+fn talk(
+    input: ChildStdin,
+    script: &[u8],
+    pauses: &[usize],
+    pieces: &Receiver<Vec<u8>>,
+    deadline: Instant,
+) -> Result<Vec<u8>, String> {
+    let mut transcript = Transcript {
+        bytes: Vec::new(),
+        lines: 0,
+        limit: lines(script).map(answers_to).sum(),
+        pieces,
+        deadline,
+    };
+    let (commands, written) = channel::<Vec<u8>>();
+    let writer = thread::spawn(move || write(input, &written));
+    let mut start = 0;
+    for &pause in pauses {
+        commands.send(script[start..pause].to_vec()).ok();
+        start = pause;
+        transcript.read_lines(complete_answers(&script[..pause]))?;
+    }
+    commands.send(script[start..].to_vec()).ok();
+    drop(commands);
+    transcript.read_to_end()?;
+    writer.join().expect("the writer ends");
+    Ok(transcript.bytes)
+}
+
+/// Writes pieces to a program as they come. A program that stops reading is
+/// no problem here: what it has printed tells.
+fn write(mut input: ChildStdin, pieces: &Receiver<Vec<u8>>) {
+    for piece in pieces {
+        if input
+            .write_all(&piece)
+            .and_then(|()| input.flush())
+            .is_err()
+        {
+            break;
+        }
+    }
+}
+
+/// How many lines of answer all complete lines of a script have.
+fn complete_answers(script: &[u8]) -> u64 {
+    let end = script.iter().rposition(|&byte| byte == b'\n');
+    end.map_or(0, |end| lines(&script[..=end]).map(answers_to).sum())
+}
+
+/// What has been read.
+struct Transcript<'a> {
+    bytes: Vec<u8>,
+    lines: u64,
+    /// How many lines there should be in the end.
+    limit: u64,
+    pieces: &'a Receiver<Vec<u8>>,
+    deadline: Instant,
+}
+
+/// A line of answer is never longer than this.
+const LONGEST: u64 = 2_000;
+
+impl Transcript<'_> {
+    /// Reads until there are so many lines, or the program ends.
+    fn read_lines(&mut self, lines: u64) -> Result<(), String> {
+        while self.lines < lines && self.read_piece(lines)? {}
+        Ok(())
+    }
+
+    fn read_to_end(&mut self) -> Result<(), String> {
+        while self.read_piece(u64::MAX)? {}
+        Ok(())
+    }
+
+    /// Reads on, while there should be so many lines. `false` at the end.
+    fn read_piece(&mut self, lines: u64) -> Result<bool, String> {
+        use std::sync::mpsc::RecvTimeoutError::{Disconnected, Timeout};
+        let left = self.deadline.saturating_duration_since(Instant::now());
+        match self.pieces.recv_timeout(left) {
+            Ok(piece) => self.add(&piece).map(|()| true),
+            Err(Disconnected) => Ok(false),
+            Err(Timeout) if lines == u64::MAX => Err("found that it does not end".to_string()),
+            Err(Timeout) => Err(format!(
+                "found {} lines where it waits for input, expected {lines}",
+                self.lines
+            )),
+        }
+    }
+
+    /// Adds what was read, unless the program goes on far beyond the answers.
+    fn add(&mut self, piece: &[u8]) -> Result<(), String> {
+        self.lines += piece.iter().filter(|&&byte| byte == b'\n').count() as u64;
+        self.bytes.extend(piece);
+        if self.bytes.len() as u64 > (self.limit + 100) * LONGEST {
+            return Err(format!(
+                "found {} bytes, expected {} lines",
+                self.bytes.len(),
+                self.limit
+            ));
+        }
+        Ok(())
+    }
+}
+
+/// Waits for a program's end, and ends it if that takes too long.
+fn wait(child: &mut Child, patience: Patience) -> io::Result<ExitStatus> {
+    let deadline = Instant::now() + patience.0;
+    while Instant::now() < deadline {
+        if let Some(status) = child.try_wait()? {
+            return Ok(status);
+        }
+        thread::sleep(Duration::from_micros(200));
+    }
+    child.kill()?;
+    child.wait()
+}
+
+/// Whether a program that cannot write its output ends with status 1.
+pub fn reports_full_output(program: &Path, patience: Patience) -> io::Result<bool> {
+    let full = OpenOptions::new().write(true).open("/dev/full")?;
+    let mut child = Command::new(program)
+        .stdin(Stdio::piped())
+        .stdout(full)
+        .stderr(Stdio::null())
+        .spawn()?;
+    let input = child.stdin.take();
+    input.expect("a pipe").write_all(b"had\n").ok();
+    Ok(wait(&mut child, patience)?.code() == Some(1))
+}
