@@ -1,5 +1,6 @@
 //! Checks and plays scripts.
 
+use std::fmt::Display;
 use std::fs;
 use std::io::{self, stdin, stdout, BufWriter, Read};
 use std::path::Path;
@@ -7,7 +8,7 @@ use std::process::ExitCode;
 use std::time::Duration;
 
 use account::stage::{self, Patience};
-use account::{check, play};
+use account::{check, play, Tally};
 
 const USAGE: &str = "usage:
   account check SCRIPT TRANSCRIPT      check what was printed for a script
@@ -48,32 +49,22 @@ fn read(path: &str) -> io::Result<Vec<u8>> {
 
 fn check_files(script: &str, transcript: &str) -> io::Result<bool> {
     let (script, transcript) = (read(script)?, read(transcript)?);
-    Ok(report(&script, &transcript))
+    Ok(report(check(&script, &transcript)))
 }
 
 fn run(program: &str, script: &str) -> io::Result<bool> {
     let script = read(script)?;
-    match stage::run(Path::new(program), &script, &[], PATIENCE)? {
-        Ok(transcript) => Ok(report(&script, &transcript)),
-        Err(what) => {
-            println!("{what}");
-            Ok(false)
-        }
-    }
+    let verdict = stage::run(Path::new(program), &script, &[], PATIENCE)?;
+    Ok(report(verdict))
 }
 
 /// Says whether a transcript is right, or where it first is not.
-fn report(script: &[u8], transcript: &[u8]) -> bool {
-    match check(script, transcript) {
-        Ok(tally) => {
-            println!("right: {tally}");
-            true
-        }
-        Err(disagreement) => {
-            println!("{disagreement}");
-            false
-        }
+fn report(verdict: Result<Tally, impl Display>) -> bool {
+    match &verdict {
+        Ok(tally) => println!("right: {tally}"),
+        Err(what) => println!("{what}"),
     }
+    verdict.is_ok()
 }
 
 fn play_file(script: &str) -> io::Result<bool> {

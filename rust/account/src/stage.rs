@@ -1,4 +1,4 @@
-//! Runs a program on a script.
+//! Runs a program on a script, and checks it.
 
 use std::fs::OpenOptions;
 use std::io::{self, Read, Write};
@@ -8,23 +8,24 @@ use std::sync::mpsc::{channel, Receiver, Sender};
 use std::thread;
 use std::time::{Duration, Instant};
 
+use crate::check::{check, Tally};
 use crate::script::{answers_to, lines};
 
 /// How long a program may take.
 #[derive(Clone, Copy, Debug)]
 pub struct Patience(pub Duration);
 
-/// Runs a program on a script and hands back what it printed.
+/// Runs a program on a script and checks what it prints.
 ///
 /// The script is written in pieces that end at the given offsets. After each
 /// piece, the answers to all its complete lines are waited for before the next
-/// is written. An error tells what went wrong, if the program could be run.
+/// is written. The inner error tells what is wrong.
 pub fn run(
     program: &Path,
     script: &[u8],
     pauses: &[usize],
     patience: Patience,
-) -> io::Result<Result<Vec<u8>, String>> {
+) -> io::Result<Result<Tally, String>> {
     let mut child = Command::new(program)
         .stdin(Stdio::piped())
         .stdout(Stdio::piped())
@@ -34,16 +35,23 @@ pub fn run(
     let output = child.stdout.take().expect("a pipe");
     let (sender, pieces) = channel();
     let reader = thread::spawn(move || read(output, &sender));
-    let verdict = talk(input, script, pauses, &pieces, Instant::now() + patience.0);
-    if verdict.is_err() {
+    let transcript = talk(input, script, pauses, &pieces, Instant::now() + patience.0);
+    if transcript.is_err() {
         child.kill()?;
     }
+    drop(pieces);
     let status = wait(&mut child, patience)?;
     reader.join().expect("the reader ends");
-    Ok(verdict.and_then(|transcript| match status.code() {
-        Some(0) => Ok(transcript),
+    Ok(transcript.and_then(|transcript| judge(script, &transcript, status)))
+}
+
+/// A transcript is right if the rules allow it and the program ended well.
+fn judge(script: &[u8], transcript: &[u8], status: ExitStatus) -> Result<Tally, String> {
+    let tally = check(script, transcript).map_err(|disagreement| disagreement.to_string())?;
+    match status.code() {
+        Some(0) => Ok(tally),
         _ => Err(format!("found {status}, expected exit status 0")),
-    }))
+    }
 }
 
 /// Sends on what a program prints.

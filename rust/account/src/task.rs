@@ -89,6 +89,11 @@ impl Role {
             _ => 0,
         }
     }
+
+    /// Whether it has an open window.
+    pub fn has_window(&self) -> bool {
+        matches!(self, Role::Reserved { window, .. } if window.is_some())
+    }
 }
 
 /// The share of a reservation.
@@ -101,7 +106,7 @@ impl Kind {
     pub fn in_range(self) -> bool {
         match self {
             Kind::Reserved { quota, period } => {
-                period >= 4 && WHOLE % period == 0 && (1..=period).contains(&quota)
+                period >= 4 && WHOLE.is_multiple_of(period) && (1..=period).contains(&quota)
             }
             Kind::Fixed { rank } => rank <= 15,
             Kind::Fair { weight } => (1..=1024).contains(&weight),
