@@ -34,24 +34,21 @@ pub fn run(
     let input = child.stdin.take().expect("a pipe");
     let output = child.stdout.take().expect("a pipe");
     let (sender, pieces) = channel();
-    let reader = thread::spawn(move || read(output, &sender));
-    let transcript = talk(input, script, pauses, &pieces, Instant::now() + patience.0);
-    if transcript.is_err() {
+    thread::spawn(move || read(output, &sender));
+    let mut transcript = Transcript::new(script, &pieces, patience);
+    let talk = talk(input, script, pauses, &mut transcript);
+    if talk.is_err() {
         child.kill()?;
     }
-    drop(pieces);
+    let Transcript { bytes, lines, .. } = transcript;
     let status = wait(&mut child, patience)?;
-    reader.join().expect("the reader ends");
-    Ok(transcript.and_then(|transcript| judge(script, &transcript, status)))
-}
-
-/// A transcript is right if the rules allow it and the program ended well.
-fn judge(script: &[u8], transcript: &[u8], status: ExitStatus) -> Result<Tally, String> {
-    let tally = check(script, transcript).map_err(|disagreement| disagreement.to_string())?;
-    match status.code() {
-        Some(0) => Ok(tally),
-        _ => Err(format!("found {status}, expected exit status 0")),
-    }
+    Ok(match (check(script, &bytes), talk) {
+        (Err(wrong), _) if wrong.answer_line as u64 <= lines => Err(wrong.to_string()),
+        (_, Err(problem)) => Err(problem),
+        (Err(wrong), Ok(())) => Err(format!("{wrong}; the program ended with {status}")),
+        (Ok(_), Ok(())) if status.code() != Some(0) => Err(format!("found {status}, expected 0")),
+        (Ok(tally), Ok(())) => Ok(tally),
+    })
 }
 
 /// Sends on what a program prints.
@@ -64,34 +61,25 @@ fn read(mut output: ChildStdout, pieces: &Sender<Vec<u8>>) {
     }
 }
 
-/// Writes the script in pieces, and reads what is printed for it.
+/// Writes the script in pieces, and reads what is printed for it. An error tells
+/// why that came to no end.
 fn talk(
     input: ChildStdin,
     script: &[u8],
     pauses: &[usize],
-    pieces: &Receiver<Vec<u8>>,
-    deadline: Instant,
-) -> Result<Vec<u8>, String> {
-    let mut transcript = Transcript {
-        bytes: Vec::new(),
-        lines: 0,
-        limit: lines(script).map(answers_to).sum(),
-        pieces,
-        deadline,
-    };
-    let (commands, written) = channel::<Vec<u8>>();
-    let writer = thread::spawn(move || write(input, &written));
+    transcript: &mut Transcript,
+) -> Result<(), String> {
+    let (pieces, written) = channel::<Vec<u8>>();
+    thread::spawn(move || write(input, &written));
     let mut start = 0;
     for &pause in pauses {
-        commands.send(script[start..pause].to_vec()).ok();
+        pieces.send(script[start..pause].to_vec()).ok();
         start = pause;
         transcript.read_lines(complete_answers(&script[..pause]))?;
     }
-    commands.send(script[start..].to_vec()).ok();
-    drop(commands);
-    transcript.read_to_end()?;
-    writer.join().expect("the writer ends");
-    Ok(transcript.bytes)
+    pieces.send(script[start..].to_vec()).ok();
+    drop(pieces);
+    transcript.read_to_end()
 }
 
 /// Writes pieces to a program as they come. A program that stops reading is
@@ -127,7 +115,18 @@ struct Transcript<'a> {
 /// A line of answer is never longer than this.
 const LONGEST: u64 = 2_000;
 
-impl Transcript<'_> {
+impl<'a> Transcript<'a> {
+    /// Nothing has been read yet of what is printed for a script.
+    fn new(script: &[u8], pieces: &'a Receiver<Vec<u8>>, patience: Patience) -> Transcript<'a> {
+        Transcript {
+            bytes: Vec::new(),
+            lines: 0,
+            limit: lines(script).map(answers_to).sum(),
+            pieces,
+            deadline: Instant::now() + patience.0,
+        }
+    }
+
     /// Reads until there are so many lines, or the program ends.
     fn read_lines(&mut self, lines: u64) -> Result<(), String> {
         while self.lines < lines && self.read_piece(lines)? {}

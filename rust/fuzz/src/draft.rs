@@ -153,7 +153,7 @@ impl Draft {
 
     pub fn fair(&mut self) -> Kind {
         let any = self.random.within(1, 1024);
-        let few = [1, 1, 2, 3, 4, 5, 7, 10, 100, 1000, 1023, 1024, any, any];
+        let few = [1, 1, 2, 3, 4, 5, 6, 7, 8, 9, 10, 12, 100, 1023, 1024, any];
         let weight = match self.random.percent(3) {
             true => self.random.one_of(&[0, 1025, 1024, u32::MAX]),
             false => self.random.one_of(&few),
@@ -182,15 +182,30 @@ impl Draft {
             .collect()
     }
 
-    /// A sleeper whose open window has hardly more ticks left than it may have.
-    pub fn late_sleeper(&mut self) -> Option<u32> {
-        self.some(|_, task| match task.role {
-            Role::Reserved {
-                quota,
-                window: Some(window),
-                ..
-            } => !task.awake && window.had < quota && window.left <= quota - window.had + 1,
-            _ => false,
-        })
+    /// The quota and the period of a reserved task.
+    pub fn reserved(&self, place: u32) -> Option<(u32, u32)> {
+        match self.system.task(place as usize)?.role {
+            Role::Reserved { quota, period, .. } => Some((quota, period)),
+            _ => None,
+        }
+    }
+
+    /// Two reserved tasks, the first with a longer period and with a quota that
+    /// is more than the second can spare of its period.
+    pub fn rivals(&mut self) -> Option<(u32, u32)> {
+        let mut all = Vec::new();
+        let places = self.all(|_, task| task.awaits.is_none());
+        for (&late, &other) in places
+            .iter()
+            .flat_map(|a| places.iter().map(move |b| (a, b)))
+        {
+            match (self.reserved(late), self.reserved(other)) {
+                (Some((q, p)), Some((quota, period))) if p > period && q + quota > period => {
+                    all.push((late, other));
+                }
+                _ => {}
+            }
+        }
+        self.random.some_of(&all)
     }
 }

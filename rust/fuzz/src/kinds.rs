@@ -11,8 +11,9 @@ use crate::malformed;
 pub type KindOfScript = (&'static str, fn(&mut Draft));
 
 /// All kinds of scripts.
-pub const KINDS: [KindOfScript; 8] = [
+pub const KINDS: [KindOfScript; 9] = [
     ("locks", locks),
+    ("crowd", crowd),
     ("shares", shares),
     ("windows", windows),
     ("fair", fair),
@@ -61,43 +62,73 @@ pub fn shares(d: &mut Draft) {
     }
 }
 
+/// Nearly all places are taken, and chains are as long as they can be.
+pub fn crowd(d: &mut Draft) {
+    if d.count() < 50 {
+        let kind = d.kind();
+        return d.make_awake(kind);
+    }
+    match d.random.below(100) {
+        0..=3 => line_up(d),
+        4..=23 => lock_some(d, 64),
+        24..=33 => ring(d),
+        34..=53 => unlock(d),
+        54..=63 => wake(d),
+        64..=67 => end(d),
+        68 => d.had(),
+        69..=73 => {
+            let kind = d.kind();
+            d.make_awake(kind);
+        }
+        _ => some_ticks(d, 5),
+    }
+}
+
 /// Reserved tasks near the brim come and go, so that windows are whole or not.
 pub fn windows(d: &mut Draft) {
+    if d.lines.is_empty() && d.random.percent(50) {
+        return tight_pair(d);
+    }
     if d.left() > SHARES / 5 && d.count() < 8 {
         let kind = d.reservation();
         return d.make_awake(kind);
     }
     match d.random.below(100) {
-        0..=11 => sleep(d),
-        12..=19 => wake(d),
-        20..=39 => match d.late_sleeper() {
+        0..=9 => sleep(d),
+        10..=13 => wake(d),
+        14..=24 => match d.some(|_, task| !task.awake && !task.role.has_window()) {
             Some(place) => {
                 d.call(Call::Wake(place));
             }
-            None => some_ticks(d, 3),
+            None => d.ticks(1),
         },
-        40..=41 => end(d),
-        42 => d.had(),
-        43 => lock_some(d, 2),
-        44 => unlock(d),
+        25..=29 => ambush(d),
+        30 => end(d),
+        31 => d.had(),
+        32 => lock_some(d, 2),
+        33 => unlock(d),
         _ => some_ticks(d, 2),
     }
 }
 
 /// Fair tasks of many weights rest, long at times, and are ended and made.
 pub fn fair(d: &mut Draft) {
-    if d.count() < 2 || d.random.percent(6) && d.count() < 20 {
+    if d.lines.is_empty() && d.random.percent(15) {
+        return far_away(d);
+    }
+    if d.count() < 3 || d.random.percent(6) && d.count() < 20 {
         let kind = d.fair();
         return d.make_awake(kind);
     }
     match d.random.below(200) {
         0..=29 => sleep(d),
-        30..=69 => wake(d),
-        70..=79 => end(d),
-        80..=84 => replace(d),
+        30..=64 => wake(d),
+        65..=74 => end(d),
+        75..=79 => replace(d),
+        80..=84 => relieve(d),
         85..=87 => d.had(),
-        88 => some_ticks(d, 6000),
-        89..=94 => some_ticks(d, 200),
+        88..=89 => some_ticks(d, 2000),
+        90..=94 => some_ticks(d, 200),
         95 => {
             let kind = d.kind();
             d.make_awake(kind);
@@ -210,6 +241,65 @@ fn replace(d: &mut Draft) {
     d.make_awake(kind);
 }
 
+/// A reserved task sleeps through most of its window, and comes back for all of
+/// its quota when another's window, which is whole and ends later, begins.
+fn ambush(d: &mut Draft) {
+    let Some((late, other)) = d.rivals() else {
+        return d.ticks(1);
+    };
+    let Some((quota, period)) = d.reserved(other) else {
+        return;
+    };
+    d.call(Call::Wake(late));
+    d.ticks(1);
+    d.call(Call::Sleep(late));
+    d.call(Call::Sleep(other));
+    let left = d
+        .system
+        .window(late as usize)
+        .map_or(0, |window| window.left);
+    let goal = d.random.within(period - quota, period - 1);
+    d.ticks(left.saturating_sub(goal));
+    d.call(Call::Wake(late));
+    d.call(Call::Wake(other));
+    d.ticks(period);
+}
+
+/// A short period, and a long one whose quota is more than the short one can spare.
+fn tight_pair(d: &mut Draft) {
+    let period = d.random.within(4, 10);
+    let quota = d.random.within(period / 3, 2 * period / 3);
+    d.make_awake(Kind::Reserved { quota, period });
+    let period = d.random.one_of(&[12, 20, 24, 30, 36, 40, 48, 60]);
+    let quota = d.left() / (WHOLE / period);
+    d.make_awake(Kind::Reserved { quota, period });
+}
+
+/// Drives the mark far away, where numbers are large, to just before a power of 2.
+fn far_away(d: &mut Draft) {
+    d.call(Call::Make(Kind::Fair { weight: 1 }));
+    d.call(Call::Wake(0));
+    let power = d.random.within(10, 14);
+    let before = d.random.below(4);
+    d.ticks((1 << power) - before);
+    for weight in [1024, 1024, 1023] {
+        d.make_awake(Kind::Fair { weight });
+    }
+    some_ticks(d, 4000);
+}
+
+/// All go to sleep but one, and others come back soon.
+fn relieve(d: &mut Draft) {
+    for place in d.all(|_, task| Draft::is_free(task)) {
+        d.call(Call::Sleep(place));
+    }
+    for _ in 0..3 {
+        wake(d);
+        some_ticks(d, 2);
+    }
+    some_ticks(d, 40);
+}
+
 /// A task locks one of a few locks.
 fn lock_some(d: &mut Draft, few: u32) {
     let place = match d.random.percent(80) {
@@ -255,6 +345,20 @@ fn ring(d: &mut Draft) {
         }
         None => lock_some(d, 5),
     }
+}
+
+/// Each task waits for the one before it; the first tries to close the ring.
+fn line_up(d: &mut Draft) {
+    let free = d.all(|_, task| Draft::is_free(task));
+    for pair in free.windows(2) {
+        d.call(Call::Lock(pair[0], pair[0]));
+        d.call(Call::Lock(pair[1], pair[1]));
+        d.call(Call::Lock(pair[1], pair[0]));
+    }
+    if let [first, .., last] = free[..] {
+        d.call(Call::Lock(first, last));
+    }
+    some_ticks(d, 10);
 }
 
 /// The locks whose owner waits, or not, for a runner of which something holds.

@@ -39,7 +39,7 @@ fn main() -> ExitCode {
 /// Plays scripts until there were enough lines and ticks, or one fails.
 fn fuzz(options: &Options, program: &Program) -> io::Result<bool> {
     if !reports_full_output(&program.path, program.patience)? {
-        println!("found another exit status than 1 where the output cannot be written");
+        println!("found that the exit status is not 1 where the output cannot be written");
         return Ok(false);
     }
     let mut total = Tally::default();

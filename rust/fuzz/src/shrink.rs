@@ -1,5 +1,7 @@
 //! Makes a script smaller while a program still fails on it.
 
+use std::time::{Duration, Instant};
+
 use account::script::parse;
 use account::{Call, Command, Kind};
 
@@ -10,35 +12,39 @@ pub type Lines = Vec<Vec<u8>>;
 pub struct Shrinker<F> {
     lines: Lines,
     fails: F,
-    /// How many more scripts may be tried.
-    tries: u32,
+    /// When to stop trying.
+    deadline: Instant,
 }
 
-/// Makes a script smaller while it fails, trying at most so many.
-pub fn shrink(lines: Lines, tries: u32, fails: impl FnMut(&Lines) -> bool) -> Lines {
+/// Makes a script smaller while it fails, for a time at most.
+pub fn shrink(lines: Lines, time: Duration, fails: impl FnMut(&Lines) -> bool) -> Lines {
     let mut shrinker = Shrinker {
         lines,
         fails,
-        tries,
+        deadline: Instant::now() + time,
     };
     loop {
         let before = shrinker.lines.clone();
         shrinker.drop_chunks();
         shrinker.drop_tasks();
+        shrinker.join_ticks();
         shrinker.lower_numbers();
-        if shrinker.lines == before || shrinker.tries == 0 {
+        if shrinker.lines == before || shrinker.is_late() {
             return shrinker.lines;
         }
     }
 }
 
 impl<F: FnMut(&Lines) -> bool> Shrinker<F> {
+    fn is_late(&self) -> bool {
+        Instant::now() >= self.deadline
+    }
+
     /// Takes a smaller script if it fails too.
     fn attempt(&mut self, smaller: Lines) -> bool {
-        if self.tries == 0 || smaller == self.lines {
+        if self.is_late() || smaller == self.lines {
             return false;
         }
-        self.tries -= 1;
         let fails = (self.fails)(&smaller);
         if fails {
             self.lines = smaller;
@@ -67,6 +73,24 @@ impl<F: FnMut(&Lines) -> bool> Shrinker<F> {
         for place in (0..64).rev() {
             let smaller = without(&self.lines, place);
             self.attempt(smaller);
+        }
+    }
+
+    /// Puts ticks that follow each other into one line.
+    fn join_ticks(&mut self) {
+        let mut i = 0;
+        while i + 1 < self.lines.len() {
+            let pair = (parse(&self.lines[i]), parse(&self.lines[i + 1]));
+            let joined = match pair {
+                (Some(Command::Tick(a)), Some(Command::Tick(b))) => a.checked_add(b),
+                _ => None,
+            };
+            let better = joined.is_some_and(|sum| {
+                let line = Command::Tick(sum).to_string().into_bytes();
+                let (before, after) = (&self.lines[..i], &self.lines[i + 2..]);
+                self.attempt([before, &[line], after].concat())
+            });
+            i += usize::from(!better);
         }
     }
 
@@ -177,7 +201,10 @@ mod tests {
         let script = lines("make fair 7\nmake fixed 3\nwake 1\nhad\ntick 90\nhad\n");
         let ticks = |line: &Vec<u8>| matches!(parse(line), Some(Command::Tick(9..)));
         let fails = |lines: &Lines| lines.iter().any(ticks);
-        assert_eq!(shrink(script, 1000, fails), lines("tick 9"));
+        assert_eq!(
+            shrink(script, Duration::from_secs(60), fails),
+            lines("tick 9")
+        );
     }
 
     #[test]

@@ -2,6 +2,7 @@
 
 use std::io;
 use std::path::PathBuf;
+use std::time::Duration;
 
 use account::stage::{self, Patience};
 use account::Tally;
@@ -11,8 +12,8 @@ use crate::kinds::KindOfScript;
 use crate::random::Random;
 use crate::shrink::{shrink, Lines};
 
-/// How many smaller scripts are tried for one that fails.
-const TRIES: u32 = 3000;
+/// How long smaller scripts are tried for one that fails.
+const TIME: Duration = Duration::from_secs(60);
 
 /// The program that is tried.
 pub struct Program {
@@ -67,25 +68,22 @@ fn bytes(lines: &Lines, ended: bool) -> Vec<u8> {
 impl Program {
     /// Plays a script, and says what was checked, or what is wrong.
     pub fn play(&self, script: &Script) -> io::Result<Result<Tally, String>> {
-        self.run(&script.bytes(), &script.pauses)
-    }
-
-    fn run(&self, script: &[u8], pauses: &[usize]) -> io::Result<Result<Tally, String>> {
-        stage::run(&self.path, script, pauses, self.patience)
+        stage::run(&self.path, &script.bytes(), &script.pauses, self.patience)
     }
 
     /// Makes a script that fails smaller, and says what is wrong with it then.
     ///
     /// One that fails only because of pauses in its writing stays as it is.
     pub fn shrink(&self, script: Script) -> io::Result<(Script, String)> {
+        let hasty = Patience(self.patience.0 / 10);
         let fails = |lines: &Lines| {
-            let verdict = self.run(&bytes(lines, script.ended), &[]);
-            matches!(verdict, Ok(Err(_)))
+            let script = bytes(lines, script.ended);
+            matches!(stage::run(&self.path, &script, &[], hasty), Ok(Err(_)))
         };
         let mut lines = script.lines.clone();
         let mut pauses = script.pauses.clone();
         if fails(&lines) {
-            lines = shrink(lines, TRIES, fails);
+            lines = shrink(lines, TIME, fails);
             pauses.clear();
         }
         let smaller = Script {
@@ -98,5 +96,48 @@ impl Program {
             Err(what) => what,
         };
         Ok((smaller, what))
+    }
+}
+
+#[cfg(test)]
+mod tests {
+    use super::*;
+    use crate::kinds::KINDS;
+
+    /// Plays scripts of all kinds with the reference, and checks them.
+    fn tally(seeds: std::ops::Range<u64>) -> Tally {
+        let mut total = Tally::default();
+        for (kind, seed) in KINDS
+            .into_iter()
+            .flat_map(|kind| seeds.clone().map(move |s| (kind, s)))
+        {
+            let script = Script::random(kind, seed).bytes();
+            let mut transcript = Vec::new();
+            account::play(&script[..], &mut transcript).expect("played");
+            total += account::check(&script, &transcript).expect("right");
+        }
+        total
+    }
+
+    #[test]
+    fn the_reference_is_right_and_every_answer_occurs() {
+        let total = tally(0..6);
+        let answers = [
+            total.done,
+            total.ids,
+            total.unread,
+            total.ticks,
+            total.any_ticks,
+        ];
+        assert!(answers.into_iter().all(|count| count > 100), "{total}");
+        for number in [1, 2, 3, 4, 5, 6, 8, 9] {
+            assert!(total.no[number] > 0, "{total}");
+        }
+    }
+
+    #[test]
+    fn scripts_are_settled_by_their_seeds() {
+        let [first, again, other] = [7, 7, 8].map(|seed| Script::random(KINDS[0], seed).bytes());
+        assert!(first == again && first != other);
     }
 }
