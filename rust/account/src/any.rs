@@ -79,12 +79,33 @@ impl Steps {
 mod tests {
     use super::*;
 
+    /// What another program, written for this, draws.
     #[test]
-    fn draws_are_those_of_the_generator() {
-        // From 0, x becomes the constant: 1442695040888963407 / 2^33 = 167953...
-        let mut steps = Steps::new(0);
-        let expected = (1_442_695_040_888_963_407u64 >> 33) % 1000;
-        assert_eq!(u64::from(steps.below(1000)), expected);
+    fn steps_are_drawn_as_documented() {
+        let mut steps = Steps::new(564);
+        let expected = [
+            "tick",
+            "unlock 4 62",
+            "make fair 2",
+            "make reserved 7 20",
+            "lock 9 1",
+            "lock 7 1",
+            "wake 12",
+            "tick",
+            "sleep 14",
+            "lock 1 3",
+            "tick",
+            "lock 15 1",
+            "end 10",
+            "make fixed 7",
+        ];
+        for line in expected {
+            let step = match steps.step() {
+                Step::Tick => "tick".to_string(),
+                Step::Call(call) => call.to_string(),
+            };
+            assert_eq!(step, line);
+        }
     }
 
     #[test]

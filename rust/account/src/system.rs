@@ -41,8 +41,9 @@ impl fmt::Display for Answer {
 /// Something promised that does not hold.
 #[derive(Clone, Copy, Debug, PartialEq, Eq)]
 pub enum Breach {
-    /// A window was whole to its end, and its task has not had its quota.
-    Short { place: usize, had: u32, quota: u32 },
+    /// A window is over of which its task has had more than its quota, or less
+    /// though it was whole.
+    Quota { place: usize, had: u32, quota: u32 },
     /// A pair of fair tasks was served too differently.
     Unfair(Unfair),
     /// Tasks wait for each other in a ring.
@@ -54,7 +55,7 @@ pub enum Breach {
 impl fmt::Display for Breach {
     fn fmt(&self, f: &mut fmt::Formatter) -> fmt::Result {
         match self {
-            Breach::Short { place, had, quota } => write!(
+            Breach::Quota { place, had, quota } => write!(
                 f,
                 "found that the window of {place} is over with {had} ticks had, expected {quota}"
             ),

@@ -235,7 +235,7 @@ fn pass_window(place: usize, quota: u32, window: &mut Option<Window>) -> Result<
     let Window { had, whole, .. } = *open;
     *window = None;
     if had > quota || whole && had != quota {
-        return Err(Breach::Short { place, had, quota });
+        return Err(Breach::Quota { place, had, quota });
     }
     Ok(())
 }

@@ -3,6 +3,7 @@
 mod draft;
 mod kinds;
 mod malformed;
+mod moves;
 mod options;
 mod random;
 mod shrink;
