@@ -42,7 +42,10 @@ impl Steps {
     }
 
     fn lock(&mut self) -> u32 {
-        self.pick(4, 72)
+        match self.below(5) {
+            4 => 64,
+            lock => lock,
+        }
     }
 
     fn kind(&mut self) -> Kind {
@@ -63,14 +66,14 @@ impl Steps {
 
     /// The next step. Arguments are drawn in the order in which they are written.
     pub fn step(&mut self) -> Step {
-        Step::Call(match self.below(32) {
-            0..=15 => return Step::Tick,
-            16 | 17 => Call::Make(self.kind()),
-            18 | 19 => Call::End(self.task()),
-            20..=23 => Call::Wake(self.task()),
-            24 => Call::Sleep(self.task()),
-            25..=27 => Call::Lock(self.task(), self.lock()),
-            _ => Call::Unlock(self.task(), self.lock()),
+        Step::Call(match self.below(64) {
+            0..=31 => return Step::Tick,
+            32 | 33 => Call::Make(self.kind()),
+            34..=39 => Call::End(self.below(72)),
+            40..=46 => Call::Wake(self.task()),
+            47 | 48 => Call::Sleep(self.task()),
+            49..=51 => Call::Lock(self.below(8), self.lock()),
+            _ => Call::Unlock(self.below(8), self.lock()),
         })
     }
 }
@@ -82,22 +85,22 @@ mod tests {
     /// What another program, written for this, draws.
     #[test]
     fn steps_are_drawn_as_documented() {
-        let mut steps = Steps::new(564);
+        let mut steps = Steps::new(26_642);
         let expected = [
+            "end 59",
+            "sleep 4",
             "tick",
-            "unlock 4 62",
-            "make fair 2",
-            "make reserved 7 20",
-            "lock 9 1",
-            "lock 7 1",
-            "wake 12",
+            "make reserved 1 6",
             "tick",
-            "sleep 14",
+            "tick",
+            "make fixed 0",
             "lock 1 3",
             "tick",
-            "lock 15 1",
-            "end 10",
-            "make fixed 7",
+            "wake 3",
+            "unlock 1 3",
+            "make fair 0",
+            "unlock 4 64",
+            "unlock 7 2",
         ];
         for line in expected {
             let step = match steps.step() {
