@@ -1,5 +1,4 @@
 -- Windows are served in an order, whole ones first: going before is irreflexive and transitive.
-use mathlib.Core.Path.{refl}
 use native.Mathlib.Omega.{arith}
 use Rattle.std.proofs.shelf.Ways.{tells}
 use Rattle.windows.specs.Life.{Shut, Open}
@@ -13,7 +12,7 @@ before-is-irreflexive Shut = grind (arith, tells)
 before-is-irreflexive (Open e g b) = grind (arith, tells)
 
 pub before-is-transitive : BeforeIsTransitive
-before-is-transitive Shut m n x y = x
+before-is-transitive Shut m n x y = grind (arith, tells)
 before-is-transitive (Open e g b) Shut n x y = grind (arith, tells)
-before-is-transitive (Open e g b) (Open f k c) Shut x y = refl
+before-is-transitive (Open e g b) (Open f k c) Shut x y = grind (arith, tells)
 before-is-transitive (Open e g b) (Open f k c) (Open h l d) x y = grind (arith, tells)
