@@ -50,15 +50,13 @@ pub struct LockId {
 
 impl LockId {
     // The lock of this number, if there is one.
-    pub fn new(number: u32) -> Option<Self>
-        ensures { λ r. ⌜ BySome r (64 ≤ number) (λ m. (m .index ≡ number) × (number < 64)) ⌝ }
+    pub fn new(lock: u32) -> Option<Self>
+        ensures { λ r. ⌜ BySome r (64 ≤ lock) (λ m. (m .index ≡ lock) × (lock < 64)) ⌝ }
     {
-        if number >= 64 {
+        if lock >= 64 {
             return None;
         }
-        Some(LockId {
-            index: number as u8,
-        })
+        Some(LockId { index: lock as u8 })
     }
 
     pub fn index(self) -> usize

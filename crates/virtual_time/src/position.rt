@@ -4,6 +4,7 @@ use quantities::promises::Weight;
 
 mod entry;
 mod order;
+mod parts;
 
 ghost use mathlib.Core.Path.{_≡_};
 ghost use Prim.Native.Nat.{_<_};
@@ -29,25 +30,6 @@ impl Position {
             rest: 0,
             weight,
         }
-    }
-
-    pub fn whole(self) -> u32
-        ensures { λ r. ⌜ r ≡ self .whole ⌝ }
-    {
-        self.whole
-    }
-
-    pub fn rest(self) -> u32
-        ensures value { λ r. ⌜ r ≡ self .rest ⌝ }
-        ensures bound { λ r. ⌜ r < self .weight .value ⌝ }
-    {
-        self.rest as u32
-    }
-
-    pub fn weight(self) -> Weight
-        ensures { λ r. ⌜ r ≡ self .weight ⌝ }
-    {
-        self.weight
     }
 
     // One part on.

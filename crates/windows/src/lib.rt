@@ -3,6 +3,7 @@ ghost use mathlib.Core.Path.{_≡_};
 ghost use mathlib.Core.Bool.{true, false};
 ghost use Rattle.windows.specs.Life.{life, openWith, openKept, passed, gotOf, isOpen, goesBefore};
 
+pub mod laws;
 mod span;
 
 use quantities::promises::Reservation;

@@ -1,8 +1,8 @@
 // An open window: how many ticks are left of it, how many were had, and whether its task wanted every one.
 ghost use mathlib.Core.Path.{_≡_};
-ghost use mathlib.Core.Bool.{Bool, true, false, cond, _&&_, _||_, not};
+ghost use mathlib.Core.Bool.{true, cond, _&&_, _||_, not};
 ghost use Prim.Native.Nat.{_+_, _-_, _<_, _≤_};
-ghost use lib.Dec.{eqb, ltb, T};
+ghost use lib.Dec.{eqb, ltb};
 use quantities::promises::Reservation;
 
 #[derive(Clone, Copy)]
@@ -16,7 +16,7 @@ pub struct Span {
 
 impl Span {
     // As long as the period, none had yet, and whole.
-    pub fn new(reservation: Reservation) -> Span
+    pub(crate) fn new(reservation: Reservation) -> Span
         ensures ends { λ r. ⌜ r .ends ≡ reservation .period ⌝ }
         ensures got { λ r. ⌜ r .got ≡ 0 ⌝ }
         ensures whole { λ r. ⌜ r .whole ≡ true ⌝ }
@@ -29,7 +29,7 @@ impl Span {
     }
 
     // Whole only if it was and its task wants the tick.
-    pub fn whole_if(self, wants: bool) -> Span
+    pub(crate) fn whole_if(self, wants: bool) -> Span
         ensures ends { λ r. ⌜ r .ends ≡ self .ends ⌝ }
         ensures got { λ r. ⌜ r .got ≡ self .got ⌝ }
         ensures whole { λ r. ⌜ r .whole ≡ self .whole && wants ⌝ }
@@ -42,14 +42,14 @@ impl Span {
     }
 
     // This tick is the last of it.
-    pub fn is_last(self) -> bool
+    pub(crate) fn is_last(self) -> bool
         ensures { λ r. ⌜ r ≡ eqb (self .ends) 1 ⌝ }
     {
         self.ends == 1
     }
 
     // One tick less to go, and one more had if it was this task's.
-    pub fn pass(self, mine: bool) -> Span
+    pub(crate) fn pass(self, mine: bool) -> Span
         requires { ⌜ 1 < self .ends ⌝ }
         ensures ends { λ r. ⌜ r .ends ≡ self .ends - 1 ⌝ }
         ensures got { λ r. ⌜ r .got ≡ cond mine (self .got + 1) (self .got) ⌝ }
@@ -63,19 +63,19 @@ impl Span {
         }
     }
 
-    pub fn got(self) -> u32
+    pub(crate) fn got(self) -> u32
         ensures { λ r. ⌜ r ≡ self .got ⌝ }
     {
         self.got as u32
     }
 
-    pub fn goes_before(self, other: Span) -> bool
+    // Whole ones first, then the earliest end.
+    pub(crate) fn goes_before(self, other: Span) -> bool
         ensures { λ r. ⌜ r ≡ cond (self .whole) (not (other .whole) || ltb (self .ends) (other .ends)) (not (other .whole) && ltb (self .ends) (other .ends)) ⌝ }
     {
-        if self.whole {
-            !other.whole || self.ends < other.ends
-        } else {
-            !other.whole && self.ends < other.ends
+        if self.whole != other.whole {
+            return self.whole;
         }
+        self.ends < other.ends
     }
 }

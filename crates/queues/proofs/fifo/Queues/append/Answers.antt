@@ -1,5 +1,5 @@
 -- Behind the last, then in front of 64, and then the place is written.
-use mathlib.Core.Path.{_≡_, refl, sym, ap, _∙_}
+use mathlib.Core.Path.{_≡_, sym, ap, _∙_}
 use Prim.Native.Nat.{ℕ}
 use native.Mathlib.Omega.{arith}
 use Rattle.queues.specs.declared.fifo.Queues.{Queues}
@@ -17,4 +17,4 @@ by-steps s u v q r p i k a b d e rq pq ki first second tail there here end =
 pub returns : need.returns
 unfolding setPlace
 returns c =
-    by-steps (c .args .self .now) (c .join .last .self) (c .join-2 .last .self) (c .args .q .index) _ _ (c .args .i .index) _ _ _ _ _ (c .index .ensures .value) (c .index-2 .ensures .value) (c .index-k .ensures .value) (c .join .ensures) (c .join-2 .ensures) refl refl refl refl
+    by-steps (c .args .self .now) (c .join .last .self) (c .join-2 .last .self) (c .args .q .index) _ _ (c .args .i .index) _ _ _ _ _ (c .index .ensures .value) (c .index-2 .ensures .value) (c .index-k .ensures .value) (c .join .ensures) (c .join-2 .ensures) (omega arith) (omega arith) (omega arith) (omega arith)

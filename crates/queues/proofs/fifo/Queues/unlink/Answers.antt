@@ -1,6 +1,7 @@
 -- The neighbours that are joined are those that the link names.
-use mathlib.Core.Path.{_≡_, refl, sym, ap, _∙_}
+use mathlib.Core.Path.{_≡_, sym, ap, _∙_}
 use Prim.Native.Nat.{ℕ, _<_}
+use native.Mathlib.Omega.{arith}
 use Rattle.queues.specs.declared.fifo.Queues.{Queues}
 use Rattle.queues.specs.Rings.{linkOf, after, before}
 use Rattle.queues.specs.Writes.{setPlace, joined, unlinked}
@@ -16,4 +17,4 @@ by-steps s u q i k a b l e w x y =
 
 pub returns : need.returns
 unfolding setPlace
-returns c = by-steps (c .args .self .now) (c .join .last .self) (c .args .q .index) (c .args .i .index) _ _ _ (c .args .i .within) (c .index-k .ensures .value) (c .join .ensures) refl refl
+returns c = by-steps (c .args .self .now) (c .join .last .self) (c .args .q .index) (c .args .i .index) _ _ _ (c .args .i .within) (c .index-k .ensures .value) (c .join .ensures) (omega arith) (omega arith)
