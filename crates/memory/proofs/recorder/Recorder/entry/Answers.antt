@@ -12,6 +12,7 @@ returns-then-k-self c =
     omega (arith, length-take-le (c .args .self .now .used) (c .args .self .now .log) (omega arith))
 
 pub returns : need.returns
-returns c =
-    (omega (arith, length-take-le (c .args .self .now .used) (c .args .self .now .log) (omega arith)),
-     sym (getD-take (c .args .self .now .used) (c .args .self .now .log) (c .args .k) blank (c .if-k-self .left)))
+returns c = (
+  omega (arith, length-take-le (c .args .self .now .used) (c .args .self .now .log) (omega arith)),
+  sym (getD-take (c .args .self .now .used) (c .args .self .now .log) (c .args .k) blank (c .if-k-self .left)),
+)

@@ -13,10 +13,11 @@ use Rattle.memory.proofs.recorder.Recorder.new.Needs as need
 pub loop-i-again : need.loop-i-again
 loop-i-again c =
     let l : c .loop-i .i < length (c .loop-i .steps) = omega arith in
-    let step : Step = getD (c .args .script .now) (c .loop-i .i) Tick in
-    (rw length-set (c .loop-i .inv .0),
-     take-more-set (c .loop-i .steps) (c .loop-i .i) step l ∙ ap (λ (ss : List Step). ss ++ (step ∷ [])) (c .loop-i .inv .1)
-       ∙ sym (take-more (c .args .script .now) (c .loop-i .i) Tick (c .loop-i-test .taken)))
+    let step : Step = getD (c .args .script .now) (c .loop-i .i) Tick in (
+      rw length-set (c .loop-i .inv .0),
+      take-more-set (c .loop-i .steps) (c .loop-i .i) step l ∙ ap (λ (ss : List Step). ss ++ (step ∷ [])) (c .loop-i .inv .1)
+          ∙ sym (take-more (c .args .script .now) (c .loop-i .i) Tick (c .loop-i-test .taken)),
+    )
 
 pub ghost-result : need.ghost-result
 unfolding legal

@@ -13,7 +13,8 @@ pub record-requires : need.record-requires
 record-requires c κs = (omega arith, ran-allowed (outcome empty (entriesOf (c .args .self .now))) (c .args .whose) (c .args .runs) (c .pre .1))
 
 pub returns : need.returns
-returns c =
-    (ap (outcome empty) (c .record .ensures .after) ∙ outcome-push empty (entriesOf (c .args .self .now)) (Ran (c .args .whose) (c .args .runs))
-       ∙ ran-entered (outcome empty (entriesOf (c .args .self .now))) (c .args .whose) (c .args .runs),
-     omega arith)
+returns c = (
+  ap (outcome empty) (c .record .ensures .after) ∙ outcome-push empty (entriesOf (c .args .self .now)) (Ran (c .args .whose) (c .args .runs))
+      ∙ ran-entered (outcome empty (entriesOf (c .args .self .now))) (c .args .whose) (c .args .runs),
+  omega arith,
+)

@@ -13,7 +13,8 @@ pub record-requires : need.record-requires
 record-requires c κs = (omega arith, told-allowed (outcome empty (entriesOf (c .args .self .now))) (c .args .c) (c .args .a) (c .pre .1))
 
 pub returns : need.returns
-returns c =
-    (ap (outcome empty) (c .record .ensures .after) ∙ outcome-push empty (entriesOf (c .args .self .now)) (Called (c .args .c) (c .args .a))
-       ∙ told-entered (outcome empty (entriesOf (c .args .self .now))) (c .args .c) (c .args .a),
-     omega arith)
+returns c = (
+  ap (outcome empty) (c .record .ensures .after) ∙ outcome-push empty (entriesOf (c .args .self .now)) (Called (c .args .c) (c .args .a))
+      ∙ told-entered (outcome empty (entriesOf (c .args .self .now))) (c .args .c) (c .args .a),
+  omega arith,
+)
