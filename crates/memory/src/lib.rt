@@ -1,0 +1,4 @@
+// Runs kept in memory: a script of steps to play, and a log of what came of each.
+pub mod entry;
+pub mod lent;
+pub mod recorder;
