@@ -47,6 +47,14 @@ unfoldable pub windowOf : code-window.Window → Window
 windowOf window-is.Shut = Shut
 windowOf (window-is.Open s) = Open (s .ends) (s .got) (s .whole)
 
+-- the place of a task that has this reservation
+abbrev pub reservedPlace : (q p : ℕ) → Place
+reservedPlace q p = A (Reserved q p)
+
+-- the place of a fixed task of this rank
+abbrev pub fixedPlace : ℕ → Place
+fixedPlace r = A (Fixed r)
+
 -- An array of 64 stands for a function: what is read at i means f i, and past the end the default does.
 pub record Reads {X Y : Type 0} (mean : X → Y) (none : X) (xs : List X) (f : ℕ → Y) : Type 0 where
   pub len : length xs ≡ 64

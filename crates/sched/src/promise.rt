@@ -1,5 +1,11 @@
 // What a task was promised, with its numbers known to be good.
-ghost use Prim.Native.Nat.{_≤_};
+ghost use mathlib.Core.Path.{_≡_};
+ghost use mathlib.Core.Bool.{true, false};
+ghost use Prim.Native.Nat.{_<_, _≤_};
+ghost use lib.Dec.{ltb};
+ghost use Rattle.std.specs.Options.{Cases as BySome};
+ghost use Rattle.sched.specs.House.{good, shareOfKind};
+ghost use Rattle.sched.specs.Stores.{kindOf};
 use crate::Kind;
 use quantities::promises::Rank;
 use quantities::promises::Reservation;
@@ -14,7 +20,9 @@ pub enum Promise {
 
 impl Promise {
     // The promise of this kind, if its numbers are good.
-    pub fn of(kind: Kind) -> Option<Promise> {
+    pub fn of(kind: Kind) -> Option<Promise>
+        ensures { λ r. ⌜ BySome r (good kind ≡ false) (λ p. (kindOf p ≡ kind) × (good kind ≡ true)) ⌝ }
+    {
         match kind {
             Kind::Reserved(quota, period) => {
                 let Some(reservation) = Reservation::new(quota, period) else {
@@ -55,7 +63,8 @@ impl Promise {
 
     // Its part of the processor, in 10,080ths; only a reservation has one.
     pub fn share(self) -> u32
-        ensures { λ r. ⌜ r ≤ 10080 ⌝ }
+        ensures value { λ r. ⌜ r ≡ shareOfKind (kindOf self) ⌝ }
+        ensures bound { λ r. ⌜ r ≤ 10080 ⌝ }
     {
         match self {
             Promise::Reserved(reservation) => reservation.share().parts(),
