@@ -1,26 +1,26 @@
 -- A quarter is left: what reserved tasks have had, and what open windows may still have, never grows faster than the shares,
 -- which are three quarters.
-use mathlib.Core.Path.{_≡_, refl, sym, ap, subst, _∙_}
-use mathlib.Core.Logic.{_⊎_, inl, inr}
-use mathlib.Core.Bool.{Bool, true, false, cond, not, _&&_, true≢false, false≢true}
+use mathlib.Core.Path.{_≡_, refl, ap}
+use mathlib.Core.Logic.{inl, inr}
+use mathlib.Core.Bool.{Bool, true, false, cond, not, _&&_, false≢true}
 use Prim.Native.Nat.{ℕ, zero, suc, _+_, _-_, _*_, _/_, _%_, _<_, _≤_}
 use native.Mathlib.Omega.{arith}
 use native.Mathlib.Nat.{mul-le-mul-left, div-add-mod}
-use lib.Dec.{T, eqb, ltb, leb, T-not}
-use Rattle.std.proofs.shelf.Tests.{cases-bool, cases-eq, cond-both, cond-true, eqb-true, eq-eqb, and-parts, and-from, lt-ltb}
+use lib.Dec.{T, eqb, ltb, T-not}
+use Rattle.std.proofs.shelf.Tests.{cases-eq, cond-true, eqb-true, eq-eqb, and-parts, and-from, lt-ltb}
 use Rattle.std.specs.declared.option.Option.{Option}
 use Rattle.sched.specs.declared.Kind.{Kind}
 use Rattle.sched.specs.declared.Kind.the-variants.{Reserved, Fixed, Fair}
 use Rattle.sched.specs.declared.Call.{Call}
-use Rattle.sched.specs.House.{House, Place, Nobody, A, Kept, Window, Shut, Open, Out, put, sum, some', good, isTask, isReserved, isFixed, weightOf, rankOf, rankWants, leastFar, fairWants, quotaOf, periodOf, shareOf, shareOfKind, gotOf, wants, due, mayTake, mayRest, mayRun, opened, openWith, openKept, passed, freed, leaves, after, numberOf, calls, kept}
+use Rattle.sched.specs.House.{House, Place, Nobody, A, Kept, Window, Shut, Open, Out, sum, some', good, isTask, isReserved, isFixed, weightOf, rankOf, rankWants, leastFar, fairWants, quotaOf, periodOf, shareOf, shareOfKind, gotOf, wants, due, mayRest, mayRun, opened, openWith, openKept, passed, freed, leaves, after, numberOf, calls, kept}
 use Rattle.sched.specs.Promise.{Comes}
 use Rattle.sched.specs.Windows.{Formed, endsOf}
-use Rattle.sched.proofs.Tests.{T-true, true-T, T-not-false, and-left-T, and-right-T}
-use Rattle.sched.proofs.Puts.{put-both}
-use Rattle.sched.proofs.Bounded.{some-witness, some-from, none-at, none-from}
-use Rattle.sched.proofs.Sums.{sum-le, sum-same, sum-add, sum-times, sum-term}
+use Rattle.sched.proofs.Tests.{T-true, true-T, and-left-T, and-right-T}
+use Rattle.sched.proofs.Puts.{put-both, put-two}
+use Rattle.sched.proofs.Bounded.{some-witness, some-from}
+use Rattle.sched.proofs.Sums.{sum-le, sum-add, sum-times, sum-term}
 use Rattle.sched.proofs.model.CallWays.{Ways, call-ways}
-use Rattle.sched.proofs.model.Windows.{Numbers, numbers, begun, formed-begun, put-two, windows-well-formed, due-got, Taken, by-due, by-rank, by-fair, take-ways, take-below, take-entitled, take}
+use Rattle.sched.proofs.model.Windows.{numbers, begun, formed-begun, windows-well-formed, due-got, Taken, by-due, by-rank, by-fair, take-ways, take-below, take}
 use Rattle.sched.proofs.model.Shares.{shares-fit}
 use Rattle.sched.proofs.model.Quotas.{share-period, runner-opened}
 use Rattle.sched.specs.Policy.{mayHave}
@@ -46,20 +46,20 @@ share-most q p g =
 
 rest-most : {p : Place} {w : Window} → Formed p w → restOf p w ≤ 10080 * shareOf p
 unfolding restOf shareOf shareOfKind quotaOf
-rest-most Formed.free = omega arith
-rest-most (Formed.shut k g) = omega arith
-rest-most (Formed.open' q p e g b k _ _ _) = let s = share-most q p k in omega arith
-rest-most (Formed.kept' q p e g b k _ _ _) = let s = share-most q p k in omega arith
+rest-most Formed.vacant = omega arith
+rest-most (Formed.closed k g) = omega arith
+rest-most (Formed.running q p e g b k _ _ _) = let s = share-most q p k in omega arith
+rest-most (Formed.lingering q p e g b k _ _ _) = let s = share-most q p k in omega arith
 
 comes-most : {p : Place} {w : Window} → Formed p w → comes p w ≤ 10080 * shareOf p
 unfolding endsOf
-comes-most Formed.free = omega arith
-comes-most (Formed.shut k g) = omega arith
-comes-most (Formed.open' q p e g b k _ l _) =
+comes-most Formed.vacant = omega arith
+comes-most (Formed.closed k g) = omega arith
+comes-most (Formed.running q p e g b k _ l _) =
     let n = numbers q p k in
     let s = mul-le-mul-left {m = e} {n = 10080} (shareOf (A (Reserved q p))) (omega arith) in
     omega arith
-comes-most (Formed.kept' q p e g b k _ l _) =
+comes-most (Formed.lingering q p e g b k _ l _) =
     let n = numbers q p k in
     let s = mul-le-mul-left {m = e} {n = 10080} (shareOf (Kept q p)) (omega arith) in
     omega arith
@@ -78,47 +78,47 @@ share-whole q p g = share-period q p g
 -- a window that opens has as much to come as it may have
 grows-begun : {p : Place} {w : Window} → Formed p w → (v : Bool) → Grows p w p (begun p w v) 0 0
 unfolding isReserved openKept openWith periodOf restOf endsOf quotaOf
-grows-begun Formed.free v = omega arith
-grows-begun (Formed.shut (Reserved q p) g) true = let e = share-whole q p g in omega arith
-grows-begun (Formed.shut (Reserved q p) g) false = omega arith
-grows-begun (Formed.shut (Fixed r) g) v = omega arith
-grows-begun (Formed.shut (Fair x) g) v = omega arith
-grows-begun (Formed.open' q p e g b k _ _ _) v = omega arith
-grows-begun (Formed.kept' q p e g b k _ _ _) v = omega arith
+grows-begun Formed.vacant v = omega arith
+grows-begun (Formed.closed (Reserved q p) g) true = let e = share-whole q p g in omega arith
+grows-begun (Formed.closed (Reserved q p) g) false = omega arith
+grows-begun (Formed.closed (Fixed r) g) v = omega arith
+grows-begun (Formed.closed (Fair x) g) v = omega arith
+grows-begun (Formed.running q p e g b k _ _ _) v = omega arith
+grows-begun (Formed.lingering q p e g b k _ _ _) v = omega arith
 
 -- a tick adds its share at most, if it had one that was its own to have
 grows-passed : {p : Place} {w : Window} → Formed p w → (m : Bool) → ((m && isReserved p) ≡ true → (gotOf w < quotaOf p) × (0 < endsOf w)) →
     Grows p w (freed (passed m w) p) (passed m w) (cond (m && isReserved p) 10080 0) (shareOf p)
 unfolding passed freed isReserved gotOf quotaOf endsOf restOf
-grows-passed Formed.free true s = omega arith
-grows-passed Formed.free false s = omega arith
-grows-passed (Formed.shut (Reserved q p) g) true s = let some = s refl in absurd (omega arith)
-grows-passed (Formed.shut (Reserved q p) g) false s = omega arith
-grows-passed (Formed.shut (Fixed r) g) true s = omega arith
-grows-passed (Formed.shut (Fixed r) g) false s = omega arith
-grows-passed (Formed.shut (Fair x) g) true s = omega arith
-grows-passed (Formed.shut (Fair x) g) false s = omega arith
-grows-passed (Formed.open' q p zero g b k l u n) m s = absurd (omega arith)
-grows-passed (Formed.open' q p (suc zero) g b k l u n) true s = let some = s refl in omega arith
-grows-passed (Formed.open' q p (suc zero) g b k l u n) false s = omega arith
-grows-passed (Formed.open' q p (suc (suc e)) g b k l u n) true s = let some = s refl in omega arith
-grows-passed (Formed.open' q p (suc (suc e)) g b k l u n) false s = omega arith
-grows-passed (Formed.kept' q p zero g b k l u n) m s = absurd (omega arith)
-grows-passed (Formed.kept' q p (suc zero) g b k l u n) true s = omega arith
-grows-passed (Formed.kept' q p (suc zero) g b k l u n) false s = omega arith
-grows-passed (Formed.kept' q p (suc (suc e)) g b k l u n) true s = omega arith
-grows-passed (Formed.kept' q p (suc (suc e)) g b k l u n) false s = omega arith
+grows-passed Formed.vacant true s = omega arith
+grows-passed Formed.vacant false s = omega arith
+grows-passed (Formed.closed (Reserved q p) g) true s = let some = s refl in absurd (omega arith)
+grows-passed (Formed.closed (Reserved q p) g) false s = omega arith
+grows-passed (Formed.closed (Fixed r) g) true s = omega arith
+grows-passed (Formed.closed (Fixed r) g) false s = omega arith
+grows-passed (Formed.closed (Fair x) g) true s = omega arith
+grows-passed (Formed.closed (Fair x) g) false s = omega arith
+grows-passed (Formed.running q p zero g b k l u n) m s = absurd (omega arith)
+grows-passed (Formed.running q p (suc zero) g b k l u n) true s = let some = s refl in omega arith
+grows-passed (Formed.running q p (suc zero) g b k l u n) false s = omega arith
+grows-passed (Formed.running q p (suc (suc e)) g b k l u n) true s = let some = s refl in omega arith
+grows-passed (Formed.running q p (suc (suc e)) g b k l u n) false s = omega arith
+grows-passed (Formed.lingering q p zero g b k l u n) m s = absurd (omega arith)
+grows-passed (Formed.lingering q p (suc zero) g b k l u n) true s = omega arith
+grows-passed (Formed.lingering q p (suc zero) g b k l u n) false s = omega arith
+grows-passed (Formed.lingering q p (suc (suc e)) g b k l u n) true s = omega arith
+grows-passed (Formed.lingering q p (suc (suc e)) g b k l u n) false s = omega arith
 
 grows-made : {w : Window} → Formed Nobody w → (k : Kind) → Grows Nobody w (A k) Shut 0 0
 unfolding restOf endsOf
-grows-made Formed.free k = omega arith
+grows-made Formed.vacant k = omega arith
 
 grows-left : {p : Place} {w : Window} → Formed p w → isTask p ≡ true → Grows p w (leaves w p) w 0 0
 unfolding isTask leaves isReserved quotaOf periodOf restOf endsOf shareOf shareOfKind
-grows-left Formed.free t = absurd (false≢true t)
-grows-left (Formed.shut k g) t = omega arith
-grows-left (Formed.open' q p e g b k _ _ _) t = omega arith
-grows-left (Formed.kept' q p e g b k _ _ _) t = absurd (false≢true t)
+grows-left Formed.vacant t = absurd (false≢true t)
+grows-left (Formed.closed k g) t = omega arith
+grows-left (Formed.running q p e g b k _ _ _) t = omega arith
+grows-left (Formed.lingering q p e g b k _ _ _) t = absurd (false≢true t)
 
 abbrev AllGrow : House → Out → Type 0
 AllGrow h o = (i : ℕ) → Grows (h .place i) (h .window i) (o .house .place i) (o .house .window i) 0 0
@@ -192,23 +192,23 @@ module _ (h : House) (k : Comes h) where
 -- WHOSE TICK. A reserved task's that is due, or a fair one's.
 reserved-period : {p : Place} {w : Window} → Formed p w → isReserved p ≡ true → 4 ≤ periodOf p
 unfolding isReserved periodOf
-reserved-period Formed.free e = absurd (false≢true e)
-reserved-period (Formed.shut (Reserved q p) g) e = numbers q p g .longer
-reserved-period (Formed.shut (Fixed r) g) e = absurd (false≢true e)
-reserved-period (Formed.shut (Fair x) g) e = absurd (false≢true e)
-reserved-period (Formed.open' q p e g b k _ _ _) t = numbers q p k .longer
-reserved-period (Formed.kept' q p e g b k _ _ _) t = absurd (false≢true t)
+reserved-period Formed.vacant e = absurd (false≢true e)
+reserved-period (Formed.closed (Reserved q p) g) e = numbers q p g .longer
+reserved-period (Formed.closed (Fixed r) g) e = absurd (false≢true e)
+reserved-period (Formed.closed (Fair x) g) e = absurd (false≢true e)
+reserved-period (Formed.running q p e g b k _ _ _) t = numbers q p k .longer
+reserved-period (Formed.lingering q p e g b k _ _ _) t = absurd (false≢true t)
 
 -- a reserved task that wants has a window open
 wants-open : {p : Place} {w : Window} → Formed p w → (v : Bool) → T v → isReserved p ≡ true → 0 < endsOf (begun p w v)
 unfolding isReserved openWith periodOf endsOf
-wants-open Formed.free v t e = absurd (false≢true e)
-wants-open (Formed.shut (Reserved q p) g) true t e = let n = numbers q p g in omega arith
-wants-open (Formed.shut (Reserved q p) g) false t e = absurd t
-wants-open (Formed.shut (Fixed r) g) v t e = absurd (false≢true e)
-wants-open (Formed.shut (Fair x) g) v t e = absurd (false≢true e)
-wants-open (Formed.open' q p e g b k l _ _) v t r = l
-wants-open (Formed.kept' q p e g b k _ _ _) v t r = absurd (false≢true r)
+wants-open Formed.vacant v t e = absurd (false≢true e)
+wants-open (Formed.closed (Reserved q p) g) true t e = let n = numbers q p g in omega arith
+wants-open (Formed.closed (Reserved q p) g) false t e = absurd t
+wants-open (Formed.closed (Fixed r) g) v t e = absurd (false≢true e)
+wants-open (Formed.closed (Fair x) g) v t e = absurd (false≢true e)
+wants-open (Formed.running q p e g b k l _ _) v t r = l
+wants-open (Formed.lingering q p e g b k _ _ _) v t r = absurd (false≢true r)
 
 module _ (h : House) (i : ℕ) where
   due-reserved : T (due h i) → T (isReserved (h .place i))

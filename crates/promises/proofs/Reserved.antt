@@ -1,25 +1,23 @@
 -- A reserved task that wants p ticks in a row has its quota of them: its window is open and whole all along, has counted its
 -- ticks, and nothing is owed in the last.
 use mathlib.Core.Path.{_≡_, refl, sym, ap, subst, _∙_}
-use mathlib.Core.Logic.{_⊎_, inl, inr}
-use mathlib.Core.Bool.{Bool, true, false, cond, _&&_, true≢false, false≢true}
-use Prim.Native.Nat.{ℕ, zero, suc, _+_, _-_, _*_, _<_, _≤_}
+use mathlib.Core.Logic.{inl, inr}
+use mathlib.Core.Bool.{Bool, true, false, cond}
+use Prim.Native.Nat.{ℕ, zero, suc, _+_, _-_, _<_, _≤_}
 use native.Mathlib.Omega.{arith}
 use lib.Dec.{T, eqb}
 use Rattle.std.proofs.shelf.Tests.{cases-eq, cond-both, eqb-true}
-use Rattle.std.specs.declared.option.Option.{Option}
 use Rattle.sched.specs.declared.Kind.{Kind}
 use Rattle.sched.specs.declared.Kind.the-variants.{Reserved}
 use Rattle.sched.specs.declared.Call.{Call}
-use Rattle.sched.specs.House.{House, Place, Nobody, A, Kept, Window, Shut, Open, Out, put, isTask, isReserved, quotaOf, periodOf, gotOf, wants, opened, openWith, passed, freed, leaves, after, numberOf, calls}
-use Rattle.sched.specs.Promise.{mine}
+use Rattle.sched.specs.House.{House, Place, Nobody, A, Kept, Window, Shut, Open, Out, isTask, isReserved, quotaOf, periodOf, gotOf, wants, opened, openWith, passed, freed, leaves, numberOf, calls}
 use Rattle.sched.specs.Windows.{Formed, endsOf}
-use Rattle.sched.specs.Quotas.{Quotas, owedOf}
-use Rattle.sched.specs.Policy.{Follows, WholeFirst, mayHave}
+use Rattle.sched.specs.Quotas.{owedOf}
+use Rattle.sched.specs.Policy.{Follows}
 use Rattle.sched.proofs.Tests.{T-true}
 use Rattle.sched.proofs.Puts.{put-else, put-both}
 use Rattle.sched.proofs.model.CallWays.{Ways, call-ways}
-use Rattle.sched.proofs.model.Windows.{Numbers, numbers, begun, Entitled, take, take-entitled}
+use Rattle.sched.proofs.model.Windows.{numbers, begun, Entitled, take, take-entitled}
 use Rattle.sched.proofs.model.Quotas.{quotas-last, follows-quotas}
 use Rattle.promises.specs.Reserved.{Wanting, begins, called, ran, ReservedHas}
 
@@ -36,13 +34,13 @@ data Stage (q p n a : ℕ) (w : Window) : Type 0 where
   past : p < n → Stage q p n a w
 
 good-of : {k : Kind} {w : Window} → Formed (A k) w → T (Rattle.sched.specs.House.good k)
-good-of (Formed.shut k g) = g
-good-of (Formed.open' q p e g b k _ _ _) = k
+good-of (Formed.closed k g) = g
+good-of (Formed.running q p e g b k _ _ _) = k
 
 got-of : {q p : ℕ} {w : Window} → Formed (A (Reserved q p)) w → gotOf w ≤ q
 unfolding gotOf
-got-of (Formed.shut k g) = omega arith
-got-of (Formed.open' q p e g b k _ _ l) = l
+got-of (Formed.closed k g) = omega arith
+got-of (Formed.running q p e g b k _ _ l) = l
 
 passed-on : (m : Bool) (e g : ℕ) (b : Bool) → 1 < e → passed m (Open e g b) ≡ Open (e - 1) (g + cond m 1 0) b
 unfolding passed

@@ -1,16 +1,15 @@
 -- Why the earliest end first is enough: claims that are covered stay so when claims are changed or opened and when a tick
 -- passes that is given to one of those which end first; and a claim in its last tick is owed nothing any more.
-use mathlib.Core.Path.{_≡_, refl, sym, ap, _∙_}
+use mathlib.Core.Path.{_≡_, ap}
 use mathlib.Core.Logic.{_⊎_, inl, inr}
-use mathlib.Core.Bool.{Bool, true, false, cond}
-use Prim.Native.Nat.{ℕ, zero, suc, _+_, _-_, _*_, _≤_, _<_, min}
+use Prim.Native.Nat.{ℕ, _+_, _-_, _*_, _≤_, _<_, min}
 use native.Mathlib.Omega.{arith}
 use native.Mathlib.Nat.{mul-le-mul-left, mul-le-mul-right}
 use lib.Dec.{leb}
-use Rattle.std.proofs.shelf.Tests.{cases-lt, cases-eq, cond-both, cond-true, cond-false, le-leb, lt-leb, leb-true, leb-false}
+use Rattle.std.proofs.shelf.Tests.{cases-lt, cases-eq, cond-true, cond-false, le-leb, lt-leb}
 use Rattle.sched.specs.House.{sum}
 use Rattle.sched.specs.Demand.{Covered, owedIn, comesIn}
-use Rattle.sched.proofs.Sums.{sum-le, sum-same, sum-add, sum-times, sum-zero, sum-term, sum-lt}
+use Rattle.sched.proofs.Sums.{sum-le, sum-add, sum-times, sum-zero, sum-term, sum-lt}
 
 -- i has ended within d, or not
 owed-cases : (ends owed : ℕ → ℕ) (d i : ℕ) → ((ends i ≤ d) × (owedIn ends owed d i ≡ owed i)) ⊎ ((d < ends i) × (owedIn ends owed d i ≡ 0))

@@ -1,6 +1,6 @@
 -- Why quotas are had, as an invariant of places and windows alone: whole windows are claims, and they are covered.
 -- Assumes nothing.
-use mathlib.Core.Bool.{Bool, true, false}
+use mathlib.Core.Bool.{true, false}
 use Prim.Native.Nat.{ℕ, _-_}
 use Rattle.sched.specs.House.{Place, Window, Shut, Open, shareOf, quotaOf}
 use Rattle.sched.specs.Windows.{Formed, endsOf}

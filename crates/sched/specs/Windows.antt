@@ -1,6 +1,6 @@
 -- Which window can stand at a place.
 -- Assumes nothing.
-use mathlib.Core.Bool.{Bool, true, false}
+use mathlib.Core.Bool.{Bool, false}
 use Prim.Native.Nat.{ℕ, _<_, _≤_}
 use lib.Dec.{T}
 use Rattle.sched.specs.declared.Kind.{Kind}
@@ -20,10 +20,10 @@ isWhole (Open e g b) = b
 -- A window is open only for a reservation or a kept share, ends within its period, and no more was had of it than the quota.
 -- A share is kept only as long as its window is open, and every task's kind is a good one.
 pub data Formed : Place → Window → Type 0 where
-  free : Formed Nobody Shut
-  shut : (k : Kind) → T (good k) → Formed (A k) Shut
-  open' : (q p e g : ℕ) (b : Bool) → T (good (Reserved q p)) → 0 < e → e ≤ p → g ≤ q → Formed (A (Reserved q p)) (Open e g b)
-  kept' : (q p e g : ℕ) (b : Bool) → T (good (Reserved q p)) → 0 < e → e ≤ p → g ≤ q → Formed (Kept q p) (Open e g b)
+  vacant : Formed Nobody Shut
+  closed : (k : Kind) → T (good k) → Formed (A k) Shut
+  running : (q p e g : ℕ) (b : Bool) → T (good (Reserved q p)) → 0 < e → e ≤ p → g ≤ q → Formed (A (Reserved q p)) (Open e g b)
+  lingering : (q p e g : ℕ) (b : Bool) → T (good (Reserved q p)) → 0 < e → e ≤ p → g ≤ q → Formed (Kept q p) (Open e g b)
 
 abbrev pub WindowsWellFormed : Type 0
 WindowsWellFormed = (h : House) → Comes h → (i : ℕ) → Formed (h .place i) (h .window i)

@@ -1,37 +1,37 @@
 -- Quotas are had under the policy: the invariant `Quotas` holds of the empty house, every call keeps it, a tick under the policy
 -- keeps it, and it says that a whole window in its last tick has had its quota.
-use mathlib.Core.Path.{_≡_, refl, sym, ap, subst, _∙_}
-use mathlib.Core.Logic.{_⊎_, inl, inr}
-use mathlib.Core.Bool.{Bool, true, false, cond, _&&_, _||_, not, true≢false, false≢true}
+use mathlib.Core.Path.{_≡_, refl, ap}
+use mathlib.Core.Logic.{inl, inr}
+use mathlib.Core.Bool.{Bool, true, false, _&&_, false≢true}
 use Prim.Native.Nat.{ℕ, zero, suc, _+_, _-_, _*_, _/_, _%_, _<_, _≤_}
 use native.Mathlib.Omega.{arith}
 use native.Mathlib.Nat.{div-add-mod}
-use lib.Dec.{T, eqb, ltb, leb, ltb→lt, lt→ltb, le→leb}
-use Rattle.std.proofs.shelf.Tests.{cases-bool, cases-eq, cond-both, eqb-true, eq-eqb, le-leb}
+use lib.Dec.{T, eqb, ltb, lt→ltb}
+use Rattle.std.proofs.shelf.Tests.{eq-eqb, le-leb}
 use Rattle.std.specs.declared.option.Option.{Option}
 use Rattle.sched.specs.declared.Kind.{Kind}
 use Rattle.sched.specs.declared.Kind.the-variants.{Reserved, Fixed, Fair}
 use Rattle.sched.specs.declared.Call.{Call}
-use Rattle.sched.specs.House.{House, empty, Place, Nobody, A, Kept, Window, Shut, Open, Out, put, sum, every, good, isReserved, isTask, quotaOf, periodOf, shareOf, shareOfKind, gotOf, wants, runner, due, mayTake, opened, openWith, openKept, passed, freed, served, leaves, after, numberOf, calls, kept}
+use Rattle.sched.specs.House.{House, empty, Place, Nobody, A, Kept, Window, Shut, Open, Out, sum, good, isReserved, isTask, quotaOf, periodOf, shareOf, shareOfKind, gotOf, wants, runner, due, opened, openWith, openKept, passed, freed, served, leaves, after, numberOf, calls, kept}
 use Rattle.sched.specs.Promise.{Comes}
-use Rattle.sched.specs.Windows.{Formed, free, shut, open', kept', endsOf, isWhole}
+use Rattle.sched.specs.Windows.{Formed, vacant, closed, running, lingering, endsOf, isWhole}
 use Rattle.sched.specs.Demand.{Covered}
 use Rattle.sched.specs.Quotas.{Quotas, owedOf}
 use Rattle.sched.specs.Policy.{wholeDue, WholeFirst, mayHave, Follows, begin, called, ran, QuotasHad}
-use Rattle.sched.proofs.Tests.{T-true, true-T, and-T, and-left-T, and-right-T}
-use Rattle.sched.proofs.Puts.{put-both}
+use Rattle.sched.proofs.Tests.{true-T, and-T, and-left-T, and-right-T}
+use Rattle.sched.proofs.Puts.{put-both, put-two}
 use Rattle.sched.proofs.Bounded.{every-from}
 use Rattle.sched.proofs.Sums.{sum-some, sum-term}
 use Rattle.sched.proofs.Demand.{none-covered, Changes, change-covered, Passes, FirstServed, tick-covered, last-covered}
 use Rattle.sched.proofs.model.CallWays.{Ways, call-ways}
-use Rattle.sched.proofs.model.Windows.{Numbers, numbers, begun, formed-begun, formed-call, formed-tick, put-two, due-got, take, take-below}
+use Rattle.sched.proofs.model.Windows.{numbers, begun, formed-begun, formed-call, formed-tick, due-got, take, take-below}
 use Rattle.sched.proofs.model.Shares.{shares-call, freed-share}
 
 pub quotas-empty : Quotas (empty .place) (empty .window)
 unfolding shareOf owedOf
 quotas-empty =
     record {
-      formed = λ i. free;
+      formed = λ i. vacant;
       covered = none-covered 64 (λ i. shareOf Nobody) (λ i. endsOf Shut) (λ i. owedOf Nobody Shut) (λ i _. refl) (λ i _. refl);
     }
 
@@ -58,27 +58,27 @@ share-period q p g =
 
 turns-begun : {p : Place} {w : Window} → Formed p w → (v : Bool) → Turns p w p (begun p w v)
 unfolding isReserved openKept openWith periodOf shareOf shareOfKind endsOf owedOf quotaOf
-turns-begun free v = turns-same Nobody Shut
-turns-begun (shut (Reserved q p) g) true = inr (refl, let e = share-period q p g in omega arith)
-turns-begun (shut (Reserved q p) g) false = turns-same (A (Reserved q p)) Shut
-turns-begun (shut (Fixed r) g) v = turns-same (A (Fixed r)) Shut
-turns-begun (shut (Fair x) g) v = turns-same (A (Fair x)) Shut
-turns-begun (open' q p e g true k l u m) true = turns-same (A (Reserved q p)) (Open e g true)
-turns-begun (open' q p e g true k l u m) false = inl (refl, omega arith, λ _. omega arith)
-turns-begun (open' q p e g false k l u m) v = turns-same (A (Reserved q p)) (Open e g false)
-turns-begun (kept' q p e g b k l u m) v = inl (refl, omega arith, λ _. omega arith)
+turns-begun vacant v = turns-same Nobody Shut
+turns-begun (closed (Reserved q p) g) true = inr (refl, let e = share-period q p g in omega arith)
+turns-begun (closed (Reserved q p) g) false = turns-same (A (Reserved q p)) Shut
+turns-begun (closed (Fixed r) g) v = turns-same (A (Fixed r)) Shut
+turns-begun (closed (Fair x) g) v = turns-same (A (Fair x)) Shut
+turns-begun (running q p e g true k l u m) true = turns-same (A (Reserved q p)) (Open e g true)
+turns-begun (running q p e g true k l u m) false = inl (refl, omega arith, λ _. omega arith)
+turns-begun (running q p e g false k l u m) v = turns-same (A (Reserved q p)) (Open e g false)
+turns-begun (lingering q p e g b k l u m) v = inl (refl, omega arith, λ _. omega arith)
 
 turns-made : {w : Window} → Formed Nobody w → (k : Kind) → Turns Nobody w (A k) Shut
 unfolding endsOf owedOf
-turns-made free k = inl (refl, omega arith, λ l. absurd (omega arith))
+turns-made vacant k = inl (refl, omega arith, λ l. absurd (omega arith))
 
 turns-left : {p : Place} {w : Window} → Formed p w → isTask p ≡ true → Turns p w (leaves w p) w
 unfolding isTask leaves isReserved shareOf shareOfKind endsOf owedOf quotaOf periodOf
-turns-left free t = absurd (false≢true t)
-turns-left (shut k g) t = inl (refl, omega arith, λ l. absurd (omega arith))
-turns-left (open' q p e g true k l u m) t = inl (refl, omega arith, λ _. omega arith)
-turns-left (open' q p e g false k l u m) t = inl (refl, omega arith, λ _. omega arith)
-turns-left (kept' q p e g b k l u m) t = absurd (false≢true t)
+turns-left vacant t = absurd (false≢true t)
+turns-left (closed k g) t = inl (refl, omega arith, λ l. absurd (omega arith))
+turns-left (running q p e g true k l u m) t = inl (refl, omega arith, λ _. omega arith)
+turns-left (running q p e g false k l u m) t = inl (refl, omega arith, λ _. omega arith)
+turns-left (lingering q p e g b k l u m) t = absurd (false≢true t)
 
 abbrev AllTurn : House → Out → Type 0
 AllTurn h o = (i : ℕ) → Turns (h .place i) (h .window i) (o .house .place i) (o .house .window i)

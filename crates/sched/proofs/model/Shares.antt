@@ -1,16 +1,14 @@
 -- Shares and kept shares are never more than three quarters: Make tests it, and nothing else adds one.
-use mathlib.Core.Path.{_≡_, refl, sym, ap, subst, _∙_}
-use mathlib.Core.Bool.{Bool, true, false, cond}
-use Prim.Native.Nat.{ℕ, zero, suc, _+_, _<_, _≤_}
+use mathlib.Core.Path.{_≡_, refl, ap}
+use Prim.Native.Nat.{ℕ, suc, _+_, _<_, _≤_}
 use native.Mathlib.Omega.{arith}
-use native.Mathlib.Nat.{le-refl}
 use lib.Dec.{eqb}
 use Rattle.std.specs.declared.option.Option.{Option}
 use Rattle.sched.specs.declared.Kind.{Kind}
 use Rattle.sched.specs.declared.Kind.the-variants.{Reserved, Fixed, Fair}
 use Rattle.sched.specs.declared.Call.{Call}
 use Rattle.sched.specs.House.{House, Place, Nobody, A, Kept, Window, Shut, Open, Out, sum, put, shareOf, shareOfKind, isReserved, quotaOf, periodOf, leaves, freed, passed, opened, after, numberOf, calls}
-use Rattle.sched.specs.Promise.{Comes, begin, called, ran, SharesFit}
+use Rattle.sched.specs.Promise.{begin, called, ran, SharesFit}
 use Rattle.sched.proofs.Sums.{sum-le, sum-but, sum-zero}
 use Rattle.sched.proofs.Puts.{put-at, put-else, put-both}
 use Rattle.sched.proofs.model.CallWays.{Ways, call-ways}

@@ -1,22 +1,21 @@
 -- Windows are well formed in every house that can come about: calls and ticks keep them so.
-use mathlib.Core.Path.{_≡_, refl, sym, ap, subst, _∙_}
+use mathlib.Core.Path.{_≡_, refl, sym, subst}
 use mathlib.Core.Logic.{_⊎_, inl, inr}
-use mathlib.Core.Bool.{Bool, true, false, cond, _&&_, true≢false, false≢true}
+use mathlib.Core.Bool.{Bool, true, false, cond, _&&_, false≢true}
 use mathlib.Core.List.{List, [], _∷_}
-use Prim.Native.Nat.{ℕ, zero, suc, _+_, _-_, _*_, _/_, _%_, _<_, _≤_}
+use Prim.Native.Nat.{ℕ, zero, suc, _+_, _-_, _%_, _<_, _≤_}
 use native.Mathlib.Omega.{arith}
 use lib.Dec.{T, eqb, ltb, leb, leb→le, ltb→lt, eqb→eq}
-use Rattle.std.proofs.shelf.Tests.{cases-bool, cases-eq, cond-both, eqb-true}
+use Rattle.std.proofs.shelf.Tests.{cond-both, eqb-true}
 use Rattle.std.specs.declared.option.Option.{Option}
-use Rattle.sched.specs.declared.Kind.{Kind}
 use Rattle.sched.specs.declared.Kind.the-variants.{Reserved, Fixed, Fair}
 use Rattle.sched.specs.declared.Call.{Call}
-use Rattle.sched.specs.House.{House, Place, Nobody, A, Kept, Window, Shut, Open, Out, good, isReserved, isFixed, isTask, weightOf, rankOf, rankWants, topRank, inTurn, leastFar, fairWants, nearer, some', quotaOf, periodOf, gotOf, wants, runner, due, mayTake, opened, openWith, openKept, passed, freed, leaves, after, numberOf, calls, put, mayRun, kept}
-use Rattle.sched.specs.Promise.{Comes, begin, called, ran}
-use Rattle.sched.specs.Windows.{Formed, free, shut, open', kept', endsOf, isWhole, WindowsWellFormed}
+use Rattle.sched.specs.House.{House, Place, Nobody, A, Kept, Window, Shut, Out, good, isReserved, isFixed, isTask, weightOf, rankOf, rankWants, topRank, inTurn, leastFar, fairWants, some', quotaOf, periodOf, gotOf, wants, runner, due, mayTake, opened, openWith, openKept, passed, freed, leaves, after, numberOf, calls, kept}
+use Rattle.sched.specs.Promise.{begin, called, ran}
+use Rattle.sched.specs.Windows.{Formed, vacant, closed, running, lingering, WindowsWellFormed}
 use Rattle.sched.specs.Policy.{mayHave}
 use Rattle.sched.proofs.Tests.{T-true, true-T, and-left-T, and-right-T}
-use Rattle.sched.proofs.Puts.{put-both}
+use Rattle.sched.proofs.Puts.{put-both, put-two}
 use Rattle.sched.proofs.model.CallWays.{Ways, call-ways}
 
 -- the numbers of a reservation
@@ -47,15 +46,15 @@ begun p w v = cond (isReserved p) (openWith v (periodOf p) w) (openKept w)
 
 pub formed-begun : {p : Place} {w : Window} → Formed p w → (v : Bool) → Formed p (begun p w v)
 unfolding isReserved openKept openWith periodOf
-formed-begun free v = free
-formed-begun (shut (Reserved q p) g) true =
+formed-begun vacant v = vacant
+formed-begun (closed (Reserved q p) g) true =
     let n = numbers q p g in
-    open' q p p 0 true g (omega arith) (omega arith) (omega arith)
-formed-begun (shut (Reserved q p) g) false = shut (Reserved q p) g
-formed-begun (shut (Fixed r) g) v = shut (Fixed r) g
-formed-begun (shut (Fair x) g) v = shut (Fair x) g
-formed-begun (open' q p e g b k l u m) v = open' q p e g (b && v) k l u m
-formed-begun (kept' q p e g b k l u m) v = kept' q p e g false k l u m
+    running q p p 0 true g (omega arith) (omega arith) (omega arith)
+formed-begun (closed (Reserved q p) g) false = closed (Reserved q p) g
+formed-begun (closed (Fixed r) g) v = closed (Fixed r) g
+formed-begun (closed (Fair x) g) v = closed (Fair x) g
+formed-begun (running q p e g b k l u m) v = running q p e g (b && v) k l u m
+formed-begun (lingering q p e g b k l u m) v = lingering q p e g false k l u m
 
 -- whoever has the tick hasn't had its quota, or has none
 abbrev pub Entitled : Place → Window → Type 0
@@ -63,29 +62,29 @@ Entitled p w = (gotOf w < quotaOf p) ⊎ (periodOf p ≡ 0)
 
 pub formed-passed : {p : Place} {w : Window} → Formed p w → (m : Bool) → (m ≡ true → Entitled p w) → Formed (freed (passed m w) p) (passed m w)
 unfolding passed freed gotOf quotaOf periodOf
-formed-passed free m s = free
-formed-passed (shut k g) m s = shut k g
-formed-passed (open' q p zero g b k l u n) m s = absurd (omega arith)
-formed-passed (open' q p (suc zero) g b k l u n) m s = shut (Reserved q p) k
-formed-passed (open' q p (suc (suc e)) g b k l u n) true s =
+formed-passed vacant m s = vacant
+formed-passed (closed k g) m s = closed k g
+formed-passed (running q p zero g b k l u n) m s = absurd (omega arith)
+formed-passed (running q p (suc zero) g b k l u n) m s = closed (Reserved q p) k
+formed-passed (running q p (suc (suc e)) g b k l u n) true s =
     let a = numbers q p k in
     let some = s refl in
-    open' q p (suc e) (g + 1) b k (omega arith) (omega arith) (omega arith)
-formed-passed (open' q p (suc (suc e)) g b k l u n) false s = open' q p (suc e) g b k (omega arith) (omega arith) n
-formed-passed (kept' q p zero g b k l u n) m s = absurd (omega arith)
-formed-passed (kept' q p (suc zero) g b k l u n) m s = free
-formed-passed (kept' q p (suc (suc e)) g b k l u n) true s =
+    running q p (suc e) (g + 1) b k (omega arith) (omega arith) (omega arith)
+formed-passed (running q p (suc (suc e)) g b k l u n) false s = running q p (suc e) g b k (omega arith) (omega arith) n
+formed-passed (lingering q p zero g b k l u n) m s = absurd (omega arith)
+formed-passed (lingering q p (suc zero) g b k l u n) m s = vacant
+formed-passed (lingering q p (suc (suc e)) g b k l u n) true s =
     let a = numbers q p k in
     let some = s refl in
-    kept' q p (suc e) (g + 1) b k (omega arith) (omega arith) (omega arith)
-formed-passed (kept' q p (suc (suc e)) g b k l u n) false s = kept' q p (suc e) g b k (omega arith) (omega arith) n
+    lingering q p (suc e) (g + 1) b k (omega arith) (omega arith) (omega arith)
+formed-passed (lingering q p (suc (suc e)) g b k l u n) false s = lingering q p (suc e) g b k (omega arith) (omega arith) n
 
 pub formed-leaves : {p : Place} {w : Window} → Formed p w → isTask p ≡ true → Formed (leaves w p) w
 unfolding leaves isTask isReserved quotaOf periodOf
-formed-leaves free t = absurd (false≢true t)
-formed-leaves (shut k g) t = free
-formed-leaves (open' q p e g b k l u m) t = kept' q p e g b k l u m
-formed-leaves (kept' q p e g b k l u m) t = absurd (false≢true t)
+formed-leaves vacant t = absurd (false≢true t)
+formed-leaves (closed k g) t = vacant
+formed-leaves (running q p e g b k l u m) t = lingering q p e g b k l u m
+formed-leaves (lingering q p e g b k l u m) t = absurd (false≢true t)
 
 -- WHOSE TICK
 in-turn : (f : ℕ → Bool) (l : List ℕ) (i : ℕ) → inTurn f l ≡ suc i → f i ≡ true
@@ -169,19 +168,11 @@ module _ (h : House) (t : Option ℕ) (j : ℕ) (m : T (mayHave h t j)) where
 abbrev AllFormed : Out → Type 0
 AllFormed o = (i : ℕ) → Formed (o .house .place i) (o .house .window i)
 
--- two functions put at one place
-pub put-two : {X Y : Type 0} (n : ℕ) (x : X) (y : Y) (f : ℕ → X) (g : ℕ → Y) (i : ℕ) (P : X → Y → Type 0) → (i ≡ n → P x y) → P (f i) (g i) → P (put n x f i) (put n y g i)
-put-two n x y f g i P here else = go (eqb i n) (λ e. here (eqb-true i n e))
-  where
-    go : (b : Bool) → (b ≡ true → P x y) → P (cond b x (f i)) (cond b y (g i))
-    go true p = p refl
-    go false p = else
-
 formed-ways : (h : House) → ((i : ℕ) → Formed (h .place i) (h .window i)) → Ways h AllFormed
 formed-ways h f =
     record {
       refused = λ n. f;
-      make = λ n k _ _ _ g _ i. put-two n (A k) Shut (h .place) (h .window) i Formed (λ _. shut k (true-T (good k) g)) (f i);
+      make = λ n k _ _ _ g _ i. put-two n (A k) Shut (h .place) (h .window) i Formed (λ _. closed k (true-T (good k) g)) (f i);
       end = λ i _ t _ _ j. put-both i (leaves (h .window i) (h .place i)) (h .place) j (λ p. Formed p (h .window j)) (λ e. rw e (formed-leaves (f i) t)) (λ _. f j);
       wake = λ i _ _. f;
       sleep = λ i _ _ _. f;
@@ -195,6 +186,6 @@ pub formed-call : (h : House) (c : Call) → ((i : ℕ) → Formed (h .place i) 
 formed-call h c f = call-ways h AllFormed (formed-ways h f) c
 
 pub windows-well-formed : WindowsWellFormed
-windows-well-formed h begin i = free
+windows-well-formed h begin i = vacant
 windows-well-formed h (called {h = was} c r) i = formed-call was c (windows-well-formed was r) i
 windows-well-formed h (ran {h = was} t j r m) i = formed-tick was t j (and-left-T (mayHave was t j) (kept (opened was) (numberOf t)) m) (windows-well-formed was r) i
