@@ -1,6 +1,8 @@
+pub mod Arrays
 pub mod Bounded
 pub mod Demand
 pub mod Fractions
+pub mod Promises
 pub mod Puts
 pub mod Sums
 pub mod Tests

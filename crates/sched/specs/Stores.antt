@@ -38,6 +38,14 @@ placeOf slot.Free = Nobody
 placeOf (slot.Task p) = A (kindOf p)
 placeOf (slot.Kept r) = Kept (r .quota) (r .period)
 
+-- the place of a task that was promised this
+abbrev pub taskPlace : Promise → Place
+taskPlace p = A (kindOf p)
+
+-- who is at place i
+abbrev pub placeAt : List Slot → ℕ → Place
+placeAt slots i = placeOf (getD slots i slot.Free)
+
 -- a lock's owner: 0, or 1 and the task
 unfoldable pub ownerOf : Option TaskId → ℕ
 ownerOf None = 0

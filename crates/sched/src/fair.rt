@@ -24,7 +24,12 @@ pub struct Fair {
 impl Fair {
     pub fn new() -> Fair {
         let start = Position::start(Weight::one());
-        Fair { positions: [start; 64], wanted: [false; 64], mark: start, least: None }
+        Fair {
+            positions: [start; 64],
+            wanted: [false; 64],
+            mark: start,
+            least: None,
+        }
     }
 
     // A new fair task begins one part beyond the mark, and has nothing from whoever was at its place before.
@@ -79,7 +84,8 @@ impl Fair {
 
     fn is_nearer(&self, i: TaskId, other: Option<TaskId>) -> bool {
         match other {
-            Some(j) => self.positions[i.index()].is_behind(self.positions[j.index()]),
+            Some(j) => self.positions[i.index()]
+                .is_behind(self.positions[j.index()]),
             None => true,
         }
     }

@@ -16,7 +16,9 @@ pub struct Fixed {
 
 impl Fixed {
     pub fn new() -> Fixed {
-        Fixed { turn: Queues::new() }
+        Fixed {
+            turn: Queues::new(),
+        }
     }
 
     // A new fixed task is the last of its rank.

@@ -23,9 +23,9 @@ mod wants;
 use fair::Fair;
 use fixed::Fixed;
 use locks::Locks;
+use quantities::ids::TaskId;
 use reserved::Reserved;
 use tasks::Tasks;
-use quantities::ids::TaskId;
 use wants::Wants;
 
 // Reserved: so many ticks of so many. Fixed: rank 0 goes first. Fair: by weight.

@@ -13,7 +13,10 @@ pub struct Locks {
 
 impl Locks {
     pub fn new() -> Locks {
-        Locks { owners: [None; 64], waiters: Queues::new() }
+        Locks {
+            owners: [None; 64],
+            waiters: Queues::new(),
+        }
     }
 
     pub fn owner(&self, m: LockId) -> Option<TaskId> {

@@ -4,8 +4,8 @@ ghost use mathlib.Core.Bool.{true, false};
 ghost use Prim.Native.Nat.{_<_, _≤_};
 ghost use lib.Dec.{ltb};
 ghost use Rattle.std.specs.Options.{Cases as BySome};
-ghost use Rattle.sched.specs.House.{good, shareOfKind};
-ghost use Rattle.sched.specs.Stores.{kindOf};
+ghost use Rattle.sched.specs.House.{good, shareOfKind, isReserved, weightOf};
+ghost use Rattle.sched.specs.Stores.{kindOf, taskPlace, reservedPlace};
 use crate::Kind;
 use quantities::promises::Rank;
 use quantities::promises::Reservation;
@@ -45,7 +45,9 @@ impl Promise {
         }
     }
 
-    pub fn is_fair(self) -> bool {
+    pub fn is_fair(self) -> bool
+        ensures { λ r. ⌜ r ≡ ltb 0 (weightOf (taskPlace self)) ⌝ }
+    {
         match self {
             Promise::Reserved(_) => false,
             Promise::Fixed(_) => false,
@@ -53,7 +55,9 @@ impl Promise {
         }
     }
 
-    pub fn reservation(self) -> Option<Reservation> {
+    pub fn reservation(self) -> Option<Reservation>
+        ensures { λ r. ⌜ BySome r (isReserved (taskPlace self) ≡ false) (λ x. taskPlace self ≡ reservedPlace (x .quota) (x .period)) ⌝ }
+    {
         match self {
             Promise::Reserved(reservation) => Some(reservation),
             Promise::Fixed(_) => None,

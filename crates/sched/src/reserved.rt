@@ -13,7 +13,9 @@ pub struct Reserved {
 
 impl Reserved {
     pub fn new() -> Reserved {
-        Reserved { windows: [Window::Shut; 64] }
+        Reserved {
+            windows: [Window::Shut; 64],
+        }
     }
 
     // A new task has no window yet.

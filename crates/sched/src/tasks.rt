@@ -1,12 +1,12 @@
 // Who is at each place, and whether it is awake.
 ghost use mathlib.Core.Path.{_≡_};
-ghost use mathlib.Core.Bool.{Bool, true, false};
+ghost use mathlib.Core.Bool.{Bool, true, false, _&&_};
 ghost use Prim.Native.Nat.{ℕ, _<_, _≤_};
 ghost use lib.Dec.{ltb};
 ghost use lib.ListN.{length, getD, set};
 ghost use Rattle.std.specs.Options.{Cases as BySome};
-ghost use Rattle.sched.specs.House.{isNobody, isTask, isReserved, weightOf, shareOf};
-ghost use Rattle.sched.specs.Stores.{placeOf, reservedPlace};
+ghost use Rattle.sched.specs.House.{Place, Nobody, Shut, isNobody, isTask, isReserved, weightOf, shareOf, freed, some', first, sum, put};
+ghost use Rattle.sched.specs.Stores.{placeOf, placeAt, reservedPlace, Reads};
 ghost use Rattle.sched.specs.declared.tasks.Slot.the-variants as slot;
 use crate::promise::Promise;
 use quantities::ids::TaskId;
@@ -82,8 +82,14 @@ pub struct Tasks {
 }
 
 impl Tasks {
-    pub fn new() -> Tasks {
-        Tasks { slots: [Slot::Free; 64], awake: [false; 64] }
+    pub fn new() -> Tasks
+        ensures slots { λ r. ⌜ Reads placeOf slot.Free (r .slots) (λ _. Nobody) ⌝ }
+        ensures awake { λ r. ⌜ Reads (λ (b : Bool). b) false (r .awake) (λ _. false) ⌝ }
+    {
+        Tasks {
+            slots: [Slot::Free; 64],
+            awake: [false; 64],
+        }
     }
 
     pub fn slot(&self, i: TaskId) -> Slot
@@ -93,7 +99,9 @@ impl Tasks {
     }
 
     // The task of this number, if there is one.
-    pub fn find(&self, number: u32) -> Option<TaskId> {
+    pub fn find(&self, number: u32) -> Option<TaskId>
+        ensures { λ r. ⌜ BySome r ((ltb number 64 && isTask (placeAt (now (self .entry) .slots) number)) ≡ false) (λ t. (t .index ≡ number) × (isTask (placeAt (now (self .entry) .slots) number) ≡ true)) ⌝ }
+    {
         let Some(i) = TaskId::new(number) else {
             return None;
         };
@@ -104,7 +112,9 @@ impl Tasks {
     }
 
     // The lowest free place.
-    pub fn free_place(&self) -> Option<TaskId> {
+    pub fn free_place(&self) -> Option<TaskId>
+        ensures { λ r. ⌜ BySome r (some' 64 (λ i. isNobody (placeAt (now (self .entry) .slots) i)) ≡ false) (λ t. (some' 64 (λ i. isNobody (placeAt (now (self .entry) .slots) i)) ≡ true) × (t .index ≡ first 64 (λ i. isNobody (placeAt (now (self .entry) .slots) i)))) ⌝ }
+    {
         for i in 0..64usize {
             let slot = self.slots[i];
             if slot.is_free() {
@@ -116,7 +126,8 @@ impl Tasks {
 
     // The shares of all reserved tasks, and those that are kept.
     pub fn shares(&self) -> u32
-        ensures { λ r. ⌜ r ≤ 645120 ⌝ }
+        ensures value { λ r. ⌜ r ≡ sum 64 (λ i. shareOf (placeAt (now (self .entry) .slots) i)) ⌝ }
+        ensures bound { λ r. ⌜ r ≤ 645120 ⌝ }
     {
         let mut sum: u32 = 0;
         for i in 0..64usize {
@@ -145,7 +156,10 @@ impl Tasks {
     }
 
     // A kept place is free again.
-    pub fn release(&mut self, i: TaskId) {
+    pub fn release(&mut self, i: TaskId)
+        ensures slots { λ _. ⌜ ((f : ℕ → Place) → Reads placeOf slot.Free (now (self .entry) .slots) f → Reads placeOf slot.Free (now (self .exit) .slots) (put (i .index) (freed Shut (f (i .index))) f)) ⌝ }
+        ensures awake { λ _. ⌜ now (self .exit) .awake ≡ now (self .entry) .awake ⌝ }
+    {
         let slot = self.slots[i.index()];
         match slot {
             Slot::Free => {}

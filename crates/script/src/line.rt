@@ -19,7 +19,12 @@ pub struct Line {
 
 impl Line {
     pub fn new() -> Line {
-        Line { words: [Word::new(); 4], at: 0, bad: false, begun: false }
+        Line {
+            words: [Word::new(); 4],
+            at: 0,
+            bad: false,
+            begun: false,
+        }
     }
 
     pub fn is_begun(&self) -> bool {

@@ -20,7 +20,12 @@ pub struct Player {
 
 impl Player {
     pub fn new() -> Player {
-        Player { theatre: Theatre::new(), page: Page::new(), line: Line::new(), lines: 0 }
+        Player {
+            theatre: Theatre::new(),
+            page: Page::new(),
+            line: Line::new(),
+            lines: 0,
+        }
     }
 
     // More of the script. The answers to all of its whole lines have been handed on when it returns.
@@ -101,7 +106,12 @@ impl Player {
         self.page.end_line(out)
     }
 
-    fn write_tick<S: Sink>(&mut self, whose: Option<u32>, runs: u32, out: &mut S) -> Result<(), Stopped> {
+    fn write_tick<S: Sink>(
+        &mut self,
+        whose: Option<u32>,
+        runs: u32,
+        out: &mut S,
+    ) -> Result<(), Stopped> {
         match whose {
             Some(i) => {
                 self.page.number(u64::from(i));

@@ -15,7 +15,11 @@ pub struct Word {
 
 impl Word {
     pub fn new() -> Word {
-        Word { text: [0; 8], len: 0, value: Some(0) }
+        Word {
+            text: [0; 8],
+            len: 0,
+            value: Some(0),
+        }
     }
 
     pub fn is_empty(&self) -> bool {

@@ -2,9 +2,11 @@
 ghost use mathlib.Core.Path.{_≡_};
 ghost use mathlib.Core.Bool.{true, false};
 ghost use Rattle.windows.specs.Life.{life, openWith, openKept, passed, gotOf, isOpen, goesBefore};
+
 mod span;
-pub use span::Span;
+
 use quantities::promises::Reservation;
+pub use span::Span;
 
 // A reservation has a window, or will have one when its task wants a tick.
 #[derive(Clone, Copy)]

@@ -21,7 +21,11 @@ impl Span {
         ensures got { λ r. ⌜ r .got ≡ 0 ⌝ }
         ensures whole { λ r. ⌜ r .whole ≡ true ⌝ }
     {
-        Span { ends: reservation.period() as u16, got: 0, whole: true }
+        Span {
+            ends: reservation.period() as u16,
+            got: 0,
+            whole: true,
+        }
     }
 
     // Whole only if it was and its task wants the tick.
@@ -30,7 +34,11 @@ impl Span {
         ensures got { λ r. ⌜ r .got ≡ self .got ⌝ }
         ensures whole { λ r. ⌜ r .whole ≡ self .whole && wants ⌝ }
     {
-        Span { ends: self.ends, got: self.got, whole: self.whole && wants }
+        Span {
+            ends: self.ends,
+            got: self.got,
+            whole: self.whole && wants,
+        }
     }
 
     // This tick is the last of it.
@@ -48,7 +56,11 @@ impl Span {
         ensures whole { λ r. ⌜ r .whole ≡ self .whole ⌝ }
     {
         let got = if mine { self.got + 1 } else { self.got };
-        Span { ends: self.ends - 1, got, whole: self.whole }
+        Span {
+            ends: self.ends - 1,
+            got,
+            whole: self.whole,
+        }
     }
 
     pub fn got(self) -> u32
