@@ -1,7 +1,9 @@
 pub mod Bounded
 pub mod Demand
 pub mod Fractions
+pub mod Keep
 pub mod Puts
 pub mod Sums
 pub mod Tests
+pub mod TurnKept
 pub mod model

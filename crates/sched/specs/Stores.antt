@@ -22,6 +22,7 @@ use Rattle.sched.specs.declared.promise.Promise.the-variants as promised
 use Rattle.sched.specs.declared.tasks.Slot.{Slot}
 use Rattle.sched.specs.declared.tasks.Slot.the-variants as slot
 use Rattle.sched.specs.declared.fair.Fair as code-fair
+use Rattle.sched.specs.declared.fixed.Fixed as code-fixed
 use Rattle.sched.specs.House.{House, Place, Nobody, A, Kept, Window, Shut, Open, isFixed, rankOf, weightOf}
 use Rattle.sched.specs.Promise.{Comes}
 use Rattle.sched.specs.Quotas.{Quotas}
@@ -47,6 +48,10 @@ unfoldable pub windowOf : code-window.Window → Window
 windowOf window-is.Shut = Shut
 windowOf (window-is.Open s) = Open (s .ends) (s .got) (s .whole)
 
+-- the place of a task with this promise
+abbrev pub taskPlace : Promise → Place
+taskPlace p = A (kindOf p)
+
 -- the place of a task that has this reservation
 abbrev pub reservedPlace : (q p : ℕ) → Place
 reservedPlace q p = A (Reserved q p)
@@ -67,6 +72,10 @@ keep f (i ∷ is) = cond (f i) (i ∷ keep f is) (keep f is)
 
 abbrev pub ofRank : (ℕ → Place) → ℕ → ℕ → Bool
 ofRank place r i = isFixed (place i) && eqb (rankOf (place i)) r
+
+-- the turn of fixed tasks: the rules keep one of all tasks, the code one of each rank
+abbrev pub TurnOf : code-fixed.Fixed → (ℕ → Place) → List ℕ → Type 0
+TurnOf s place turn = queue.Holds (s .turn) (λ r. keep (ofRank place r) turn)
 
 -- A position is kept less a base that no code holds: exactly, or, of one that fell behind the base, as 0 and 0.
 abbrev pub Near : (base far rest whole part : ℕ) → Type 0
@@ -91,8 +100,7 @@ pub record Stores (s : Scheduler) (h : House) : Type 0 where
   pub owners : Reads ownerOf None (s .locks .owners) (h .owner)
   pub rows : queue.Holds (s .locks .waiters) (h .row)
   pub windows : Reads windowOf window-is.Shut (s .reserved .windows) (h .window)
-  -- the code keeps the turn of each rank, the rules one of all tasks
-  pub turn : queue.Holds (s .fixed .turn) (λ r. keep (ofRank (h .place) r) (h .turn))
+  pub turn : TurnOf (s .fixed) (h .place) (h .turn)
   pub fair : Fairly (s .fair) (h .place) (h .far) (h .rest) (h .markFar) (h .markRest) (h .markOver) (h .wanted)
 
 -- The scheduler stands for the house: it has come about by the rules, quotas are covered, and the arrays say so.
