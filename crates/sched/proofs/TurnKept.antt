@@ -12,6 +12,7 @@ use Rattle.queues.specs.Rings as queue
 use Rattle.queues.specs.Outcomes.{Pushed, Removed, Moved}
 use Rattle.queues.specs.declared.fifo.Queues.{Queues}
 use Rattle.queues.proofs.Standing.{holds-same}
+use Rattle.queues.proofs.Lists.{without-none}
 use Rattle.sched.specs.House.{Place, isFixed, isTask, rankOf, without, put}
 use Rattle.sched.specs.Promise.{times}
 use Rattle.sched.specs.Stores.{keep, ofRank}
@@ -38,7 +39,7 @@ module _ (place : ℕ → Place) (turn : List ℕ) where
   pub fixed-member : (i : ℕ) → isFixed (place i) ≡ true → OnceInTurn place turn → member.Member i (ranks place turn (rankOf (place i)))
   fixed-member i fixed once =
       member-keep (ofRank place (rankOf (place i))) i turn (and-from _ _ fixed (eq-eqb (rankOf (place i)) (rankOf (place i)) refl))
-      (times-member i turn (let one : times i turn ≡ 1 = rw (fixed-task (place i) fixed) at (once i) in omega arith)
+      (times-member i turn (let one : times i turn ≡ 1 = rw (fixed-task (place i) fixed) at (once i) in omega arith))
 
   module _ (i : ℕ) (p : Place) (none : times i turn ≡ 0) where
     -- a new task changes nothing for the others
@@ -78,4 +79,6 @@ module _ (place : ℕ → Place) (turn : List ℕ) where
       ]))))
     where
       absent : (r : ℕ) → (r ≡ rankOf (place i) → ⊥) → without i (ranks place turn r) ≡ ranks place turn r
-      absent r d = ?
+      absent r d =
+          sym (without-same i (ranks place turn r)) ∙ without-none i (ranks place turn r)
+          (λ m. d (sym (eqb-true (rankOf (place i)) r (and-parts (isFixed (place i)) (eqb (rankOf (place i)) r) (keep-member (ofRank place r) i turn m .0) .1))))
