@@ -1,7 +1,9 @@
+pub mod Arrays
 pub mod Bounded
 pub mod Demand
 pub mod Fractions
 pub mod Puts
+pub mod Standing
 pub mod Sums
 pub mod Tests
 pub mod model
