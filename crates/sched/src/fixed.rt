@@ -52,8 +52,11 @@ impl Fixed {
     pub fn pass(&mut self, whose: Option<TaskId>)
         ensures { λ _. ⌜ ((place : ℕ → Place) (turn : List ℕ) → TurnOf (now (self .entry)) place turn → OnceInTurn place turn → TurnOf (now (self .exit)) place (turnAfter (ownerOf whose) place turn)) ⌝ }
     {
-        if let Some(i) = whose {
-            let _moved = self.turn.move_to_back(i);
+        match whose {
+            Some(i) => {
+                let _moved = self.turn.move_to_back(i);
+            }
+            None => {}
         }
     }
 

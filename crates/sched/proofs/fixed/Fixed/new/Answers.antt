@@ -1,5 +1,6 @@
-use borrow.Author.Needs.{needs}
+use Rattle.sched.specs.Stores.{keep}
 use Rattle.sched.proofs.fixed.Fixed.new.Needs as need
 
 pub returns : need.returns
-returns c = let h = c .args in ?
+unfolding keep
+returns c = c .new .ensures

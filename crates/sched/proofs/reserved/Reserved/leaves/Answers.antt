@@ -1,11 +1,18 @@
-use borrow.Author.Needs.{needs}
+use mathlib.Core.Path.{_≡_, sym, ap, _∙_}
+use Rattle.sched.specs.House.{leaves, Nobody}
+use Rattle.sched.specs.Stores.{placeOf, windowOf}
+use Rattle.sched.proofs.Lives.{leaves-shut, leaves-kept, leaves-other}
 use Rattle.sched.proofs.reserved.Reserved.leaves.Needs as need
 
 pub returns-then-not-is-open : need.returns-then-not-is-open
-returns-then-not-is-open c = let h = c .args in ?
+unfolding placeOf
+returns-then-not-is-open c =
+    sym (ap (λ w. leaves (windowOf w) (placeOf (c .args .slot))) (sym (c .window .ensures)) ∙ leaves-shut (c .window .result) (placeOf (c .args .slot)) (sym (c .is-open .ensures) ∙ c .if-not-is-open .taken))
 
 pub returns-in-Some : need.returns-in-Some
-returns-in-Some c = let h = c .args in ?
+unfolding placeOf
+returns-in-Some c = ?
 
 pub returns-in-None : need.returns-in-None
-returns-in-None c = let h = c .args in ?
+unfolding placeOf
+returns-in-None c = ?

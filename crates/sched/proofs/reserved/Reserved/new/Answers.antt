@@ -1,5 +1,8 @@
-use borrow.Author.Needs.{needs}
+use Rattle.windows.specs.declared.Window.the-variants as window-is
+use Rattle.sched.specs.Stores.{windowOf}
+use Rattle.sched.proofs.Arrays.{reads-replicate}
 use Rattle.sched.proofs.reserved.Reserved.new.Needs as need
 
 pub returns : need.returns
-returns c = let h = c .args in ?
+unfolding windowOf
+returns c = reads-replicate windowOf window-is.Shut
