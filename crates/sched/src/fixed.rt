@@ -26,7 +26,9 @@ impl Fixed {
     pub fn new() -> Fixed
         ensures { λ r. ⌜ TurnOf r (empty .place) (empty .turn) ⌝ }
     {
-        Fixed { turn: Queues::new() }
+        Fixed {
+            turn: Queues::new(),
+        }
     }
 
     // A new fixed task is the last of its rank.

@@ -20,7 +20,9 @@ impl Reserved {
     pub fn new() -> Reserved
         ensures { λ r. ⌜ Reads windowOf window-is.Shut (r .windows) (empty .window) ⌝ }
     {
-        Reserved { windows: [Window::Shut; 64] }
+        Reserved {
+            windows: [Window::Shut; 64],
+        }
     }
 
     // A new task has no window yet.
