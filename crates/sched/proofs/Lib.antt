@@ -2,8 +2,12 @@ pub mod Arrays
 pub mod Bounded
 pub mod Demand
 pub mod Fractions
+pub mod Keep
+pub mod Lives
 pub mod Promises
 pub mod Puts
+pub mod Standing
 pub mod Sums
 pub mod Tests
+pub mod TurnKept
 pub mod model

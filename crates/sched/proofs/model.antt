@@ -11,4 +11,5 @@ pub mod Shares
 pub mod Stands
 pub mod TakeWays
 pub mod Ticks
+pub mod Turn
 pub mod Windows

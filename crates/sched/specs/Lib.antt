@@ -5,4 +5,5 @@ pub mod Policy
 pub mod Promise
 pub mod Quotas
 pub mod Stores
+pub mod Turns
 pub mod Windows
