@@ -39,10 +39,6 @@ placeOf slot.Free = Nobody
 placeOf (slot.Task p) = A (kindOf p)
 placeOf (slot.Kept r) = Kept (r .quota) (r .period)
 
--- the place of a task that was promised this
-abbrev pub taskPlace : Promise → Place
-taskPlace p = A (kindOf p)
-
 -- who is at place i
 abbrev pub placeAt : List Slot → ℕ → Place
 placeAt slots i = placeOf (getD slots i slot.Free)
