@@ -1,5 +1,6 @@
 pub mod Arrays
 pub mod Bounded
+pub mod Changes
 pub mod Demand
 pub mod Fractions
 pub mod Keep
@@ -9,5 +10,7 @@ pub mod Puts
 pub mod Standing
 pub mod Sums
 pub mod Tests
+pub mod Told
 pub mod TurnKept
+pub mod Waiting
 pub mod model
