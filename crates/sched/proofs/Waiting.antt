@@ -93,3 +93,7 @@ pub rest-told : (xs : List ℕ) → rest xs ≡ restOf xs
 unfolding restOf
 rest-told [] = refl
 rest-told (x ∷ xs) = refl
+
+-- THE RING TEST, asked of who runs for the owner
+pub ring-told : (h : House) (m i o r x y : ℕ) → suc o ≡ h .owner m → r ≡ runner 64 h o → x ≡ r → y ≡ i → eqb (runner 64 h (h .owner m - 1)) i ≡ eqb x y
+ring-told h m i o r x y owns runs e f = let at : h .owner m - 1 ≡ o = omega arith in cc
