@@ -1,9 +1,13 @@
 pub mod Arrays
+pub mod Beginning
 pub mod Bounded
 pub mod Demand
 pub mod Fractions
+pub mod Joining
 pub mod Keep
 pub mod Lives
+pub mod Lowering
+pub mod Passed
 pub mod Promises
 pub mod Puts
 pub mod Standing
