@@ -1,6 +1,7 @@
 pub mod Arrays
 pub mod Beginning
 pub mod Bounded
+pub mod Changes
 pub mod Demand
 pub mod Fractions
 pub mod Joining
@@ -13,5 +14,7 @@ pub mod Puts
 pub mod Standing
 pub mod Sums
 pub mod Tests
+pub mod Told
 pub mod TurnKept
+pub mod Waiting
 pub mod model
