@@ -1,5 +1,6 @@
 pub mod Demand
 pub mod House
+pub mod Midtick
 pub mod Nearer
 pub mod Policy
 pub mod Promise

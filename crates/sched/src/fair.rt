@@ -7,9 +7,11 @@ use quantities::ids::TaskId;
 use quantities::promises::Weight;
 use virtual_time::position::Position;
 ghost use mathlib.Core.Path.{_≡_};
+ghost use mathlib.Core.Bool.{true, false};
+ghost use Rattle.std.specs.Options.{Cases as BySome};
 ghost use Prim.Native.Nat.{ℕ, _+_, _<_};
 ghost use Rattle.virtual_time.specs.Positions.{madeFar, madeRest};
-ghost use Rattle.sched.specs.House.{House, empty, weightOf};
+ghost use Rattle.sched.specs.House.{House, empty, weightOf, fairWants, leastFar};
 ghost use Rattle.sched.specs.Stores.{placeOf, Stands, FairlyOf, madeAt};
 ghost use Rattle.sched.specs.declared.tasks.Slot.the-variants as slot;
 
@@ -126,6 +128,12 @@ impl Fair {
 }
 
 pub impl Class for Fair as FairClass {
+    ghost stands = { λ f h. BySome (f .least) ((i : ℕ) → i < 64 → fairWants h i ≡ false) (λ i. leastFar h (i .index) ≡ true) };
+
+    ghost asks = { fairWants };
+
+    ghost owed = { λ h i. leastFar h i ≡ true };
+
     fn candidate(&self, _tasks: &Tasks, _wants: &Wants) -> Option<TaskId> {
         self.least
     }

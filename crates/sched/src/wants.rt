@@ -1,4 +1,7 @@
 // Who wants a tick: a task whose runner is awake.
+ghost use mathlib.Core.Path.{_≡_};
+ghost use mathlib.Core.Bool.{false};
+ghost use lib.ListN.{getD};
 use crate::locks::Locks;
 use crate::tasks::Tasks;
 use quantities::ids::TaskId;
@@ -20,7 +23,9 @@ impl Wants {
         Wants { flags }
     }
 
-    pub fn of(&self, i: TaskId) -> bool {
+    pub fn of(&self, i: TaskId) -> bool
+        ensures { λ r. ⌜ r ≡ getD (now (self .entry) .flags) (i .index) false ⌝ }
+    {
         self.flags[i.index()]
     }
 }
