@@ -4,10 +4,13 @@ pub mod Demand
 pub mod Fractions
 pub mod Keep
 pub mod Lives
+pub mod Passing
 pub mod Promises
 pub mod Puts
 pub mod Standing
 pub mod Sums
 pub mod Tests
 pub mod TurnKept
+pub mod Upto
+pub mod Walks
 pub mod model
