@@ -7,6 +7,8 @@ pub mod Lives
 pub mod Passing
 pub mod Promises
 pub mod Puts
+pub mod RankTurns
+pub mod Soonest
 pub mod Standing
 pub mod Sums
 pub mod Tests

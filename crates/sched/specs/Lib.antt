@@ -1,3 +1,4 @@
+pub mod Begun
 pub mod Demand
 pub mod House
 pub mod Midtick
