@@ -57,8 +57,8 @@ module _ (h : House) (once : OnceInTurn (h .place) (h .turn)) where
         first = rw top (sym e);
       }
 
-  pub no-rank : {tasks : Tasks} → SlotsOf tasks h → ((r : ℕ) → r < 16 → inTurn (rankWants h r) (h .turn) ≡ 0) → some' 64 (fixedWants h) ≡ false
-  no-rank {tasks} slots none =
+  pub no-rank : (tasks : Tasks) → SlotsOf tasks h → ((r : ℕ) → r < 16 → inTurn (rankWants h r) (h .turn) ≡ 0) → some' 64 (fixedWants h) ≡ false
+  no-rank tasks slots none =
       none-from (fixedWants h) 64
       (λ i l. ⊎-elim
       (λ e.

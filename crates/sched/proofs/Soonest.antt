@@ -91,13 +91,13 @@ module _ (h : House) (k : ℕ) where
   -- k is
   pub best-take : (best : Option TaskId) (before : Bool) (i : TaskId) → i .index ≡ k → due h k ≡ true → before ≡ true → BySome best (before ≡ true) (λ j. before ≡ soonerThan (h .window k) (h .window (j .index))) → BestBelow k h best →
       (due h (i .index) ≡ true) × ((j : ℕ) → j < k + 1 → due h j ≡ true → soonerThan (h .window j) (h .window (i .index)) ≡ false)
-  best-take best before i e d yes than b =
+  best-take best before i e d goes than b =
       rw e (d, below-more (λ j. due h j ≡ true → soonerThan (h .window j) (h .window k) ≡ false) (earlier best than b) (λ _. never-sooner (h .window k)))
     where
       earlier : (best : Option TaskId) → BySome best (before ≡ true) (λ j. before ≡ soonerThan (h .window k) (h .window (j .index))) → BestBelow k h best → (j : ℕ) → j < k → due h j ≡ true → soonerThan (h .window j) (h .window k) ≡ false
       earlier None than b j l due-j = absurd (both-ways (due h j) (b j l) due-j)
       earlier (Some m) than b j l due-j =
-          ⊎-elim (λ s. absurd (both-ways (soonerThan (h .window j) (h .window (m .index))) (b .1 j l due-j) (sooner-trans (h .window j) (h .window k) (h .window (m .index)) s (sym than ∙ yes)))) (λ s. s)
+          ⊎-elim (λ s. absurd (both-ways (soonerThan (h .window j) (h .window (m .index))) (b .1 j l due-j) (sooner-trans (h .window j) (h .window k) (h .window (m .index)) s (sym than ∙ goes)))) (λ s. s)
           (cases-bool (soonerThan (h .window j) (h .window k)))
 
 -- the best of all places

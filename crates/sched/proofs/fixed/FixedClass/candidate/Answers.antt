@@ -18,4 +18,4 @@ loop-k-again c h asks turn r l =
     (λ ne. c .loop-k .inv h asks turn r (omega arith)) (cases-eq r (c .loop-k .k))
 
 pub returns : need.returns
-returns c h slots asks (turn, once) = no-rank h once slots (λ r l. c .loop-k .inv h asks turn r (omega arith))
+returns c h slots asks (turn, once) = no-rank h once (c .args .-tasks .now) slots (λ r l. c .loop-k .inv h asks turn r (omega arith))
