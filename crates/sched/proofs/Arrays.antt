@@ -5,7 +5,7 @@ use mathlib.Core.Logic.{inl, inr}
 use Prim.Native.Nat.{ℕ, _<_, _≤_}
 use native.Mathlib.Omega.{arith}
 use lib.ListN.{length, getD, set, replicate}
-use Rattle.std.proofs.shelf.Lists.{length-set, length-replicate, getD-set-same, getD-set-other, getD-replicate, getD-past}
+use Rattle.std.proofs.shelf.Lists.{length-set, length-replicate, getD-set-same, getD-set-other, getD-replicate, getD-past, getD-default}
 use Rattle.std.proofs.shelf.Tests.{cases-lt}
 use Rattle.sched.specs.House.{put}
 use Rattle.sched.specs.Stores.{Reads}
@@ -15,6 +15,11 @@ module _ {X Y : Type 0} (mean : X → Y) (none : X) where
   -- an array stands for what is read from it
   pub reads-self : (xs : List X) → length xs ≡ 64 → Reads mean none xs (λ i. mean (getD xs i none))
   reads-self xs l = record { len = l; at = λ i. refl }
+
+  -- what is read below 64 doesn't depend on the default
+  pub reads-at : {xs : List X} {f : ℕ → Y} (i k : ℕ) (d : X) → k ≡ i → i < 64 → Reads mean none xs f → mean (getD xs k d) ≡ f i
+  reads-at {xs} {f} i k d e l r =
+      ap mean (getD-default xs k d none (omega (arith, r .len))) ∙ (ap (λ j. mean (getD xs j none)) e ∙ r .at i)
 
   pub reads-replicate : Reads mean none (replicate 64 none) (λ _. mean none)
   reads-replicate = record { len = length-replicate 64 none; at = λ i. ap mean (all i) }

@@ -1,5 +1,7 @@
 pub mod Arrays
 pub mod Bounded
+pub mod Choosing
+pub mod Changes
 pub mod Demand
 pub mod Fractions
 pub mod Keep
@@ -12,7 +14,9 @@ pub mod Soonest
 pub mod Standing
 pub mod Sums
 pub mod Tests
+pub mod Told
 pub mod TurnKept
 pub mod Upto
+pub mod Waiting
 pub mod Walks
 pub mod model

@@ -1,6 +1,7 @@
 pub mod CallWays
 pub mod Fairness
 pub mod Kinds
+pub mod Outcomes
 pub mod Places
 pub mod Position
 pub mod Positions

@@ -8,12 +8,16 @@ use Rattle.std.specs.Options.{Cases as BySome}
 use Rattle.std.specs.declared.option.Option.{Option}
 use Rattle.quantities.specs.declared.ids.TaskId.{TaskId}
 use Rattle.windows.specs.declared.Window.the-variants as window-is
+use Rattle.sched.specs.declared.Scheduler.{Scheduler}
+use Rattle.sched.specs.declared.locks.Locks.{Locks}
 use Rattle.sched.specs.declared.tasks.Tasks.{Tasks}
 use Rattle.sched.specs.declared.tasks.Slot.the-variants as slot
 use Rattle.sched.specs.declared.wants.Wants as code-wants
 use Rattle.sched.specs.declared.reserved.Reserved as code-reserved
 use Rattle.sched.specs.House.{House, Window, Shut, Open, some', isFixed, wants, due, rankWants, topRank, inTurn, mayTake, mayRest, opened}
-use Rattle.sched.specs.Stores.{Reads, placeOf, windowOf, ownerOf}
+use Rattle.sched.specs.Stores.{Reads, Locked, TurnOf, placeOf, windowOf, ownerOf}
+use Rattle.sched.specs.Begun.{Begun}
+use Rattle.sched.specs.Quotas.{Quotas}
 use Rattle.sched.specs.Policy.{wholeDue}
 use Rattle.sched.specs.Windows.{endsOf}
 
@@ -29,6 +33,20 @@ WindowsOf r h = Reads windowOf window-is.Shut (r .windows) (h .window)
 -- who wants, where a clause has another `wants`
 abbrev pub asking : House → ℕ → Bool
 asking h i = wants h i
+
+-- Who is there and awake, and who holds what: what says who wants.
+pub record Seen (t : Tasks) (l : Locks) (h : House) : Type 0 where
+  pub slots : SlotsOf t h
+  pub awake : Reads (λ (b : Bool). b) false (t .awake) (h .awake)
+  pub locks : Locked l h
+
+-- The tick has begun: windows have opened, fair tasks have come back and the mark has moved, and nobody has had it yet.
+pub record Midtick (s : Scheduler) (h : House) : Type 0 where
+  pub quotas : Quotas (h .place) (h .window)
+  pub seen : Seen (s .tasks) (s .locks) h
+  pub windows : WindowsOf (s .reserved) (opened h)
+  pub turn : TurnOf (s .fixed) (h .place) (h .turn)
+  pub fair : Begun (s .fair) h
 
 -- RESERVED
 -- i is due; and if the window of one that is due is whole, i's is too, and ends no later

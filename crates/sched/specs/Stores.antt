@@ -23,6 +23,7 @@ use Rattle.sched.specs.declared.tasks.Slot.{Slot}
 use Rattle.sched.specs.declared.tasks.Slot.the-variants as slot
 use Rattle.sched.specs.declared.fair.Fair as code-fair
 use Rattle.sched.specs.declared.fixed.Fixed as code-fixed
+use Rattle.sched.specs.declared.locks.Locks as code-locks
 use Rattle.sched.specs.House.{House, Place, Nobody, A, Kept, Window, Shut, Open, put, makes, anew, isFixed, rankOf, weightOf}
 use Rattle.sched.specs.Promise.{Comes}
 use Rattle.sched.specs.Quotas.{Quotas}
@@ -116,6 +117,12 @@ FairlyOf f h = Fairly f (h .place) (h .far) (h .rest) (h .markFar) (h .markRest)
 -- the house in which this was promised to a new task at i, as far as fair tasks go
 abbrev pub madeAt : ℕ → Promise → House → House
 madeAt i p h = anew i (makes h (put i (A (kindOf p)) (h .place)) (h .awake) (h .waits) (h .owner) (h .row) (h .window) (h .turn))
+
+-- Who owns and who waits, in a house that can have come about.
+pub record Locked (s : code-locks.Locks) (h : House) : Type 0 where
+  pub comes : Comes h
+  pub owners : Reads ownerOf None (s .owners) (h .owner)
+  pub rows : queue.Holds (s .waiters) (h .row)
 
 -- Field by field. Whom a task waits for needs no array: who waits stands in the lock's row.
 pub record Stores (s : Scheduler) (h : House) : Type 0 where

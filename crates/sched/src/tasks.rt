@@ -100,7 +100,7 @@ impl Tasks {
 
     // The task of this number, if there is one.
     pub fn find(&self, number: u32) -> Option<TaskId>
-        ensures { λ r. ⌜ BySome r ((ltb number 64 && isTask (placeAt (now (self .entry) .slots) number)) ≡ false) (λ t. (t .index ≡ number) × (isTask (placeAt (now (self .entry) .slots) number) ≡ true)) ⌝ }
+        ensures { λ r. ⌜ BySome r ((ltb number 64 && isTask (placeAt (now (self .entry) .slots) number)) ≡ false) (λ t. (t .index ≡ number) × (isTask (placeAt (now (self .entry) .slots) (t .index)) ≡ true)) ⌝ }
     {
         let Some(i) = TaskId::new(number) else {
             return None;
