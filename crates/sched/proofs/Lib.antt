@@ -10,6 +10,7 @@ pub mod Passing
 pub mod Promises
 pub mod Puts
 pub mod RankTurns
+pub mod Seeing
 pub mod Soonest
 pub mod Standing
 pub mod Sums
