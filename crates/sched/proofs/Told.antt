@@ -1,5 +1,5 @@
 -- A call that is turned away, and one that is granted: the answer and the house of the rules, and what is stored.
-use mathlib.Core.Path.{_≡_, refl, sym, ap, _∙_, subst}
+use mathlib.Core.Path.{_≡_, sym, ap, _∙_, subst}
 use mathlib.Core.Bool.{true, false, _&&_}
 use Prim.Native.Nat.{ℕ, _<_}
 use lib.Dec.{ltb}
@@ -54,8 +54,8 @@ module _ (s : Scheduler) (h : House) (k : Holds s h) where
   pub free-told : some' 64 (λ i. isNobody (placeAt (s .tasks .slots) i)) ≡ some' 64 (λ i. isNobody (h .place i))
   free-told = some-same _ _ 64 (λ i _. ap isNobody (k .stores .slots .at i))
 
-  pub first-told : first 64 (λ i. isNobody (placeAt (s .tasks .slots) i)) ≡ newAt h
-  first-told = first-same _ _ 64 (λ i _. ap isNobody (k .stores .slots .at i))
+  pub new-place-told : first 64 (λ i. isNobody (placeAt (s .tasks .slots) i)) ≡ newAt h
+  new-place-told = first-same _ _ 64 (λ i _. ap isNobody (k .stores .slots .at i))
 
   pub shares-told : sum 64 (λ i. shareOf (placeAt (s .tasks .slots) i)) ≡ sum 64 (λ i. shareOf (h .place i))
   shares-told = sum-same 64 _ _ (λ i _. ap shareOf (k .stores .slots .at i))

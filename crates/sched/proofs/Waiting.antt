@@ -1,7 +1,7 @@
 -- Who waits for a lock stands in its row: what the queues tell of waiting, in a house that can have come about.
 use mathlib.Core.Path.{_≡_, refl, sym, ap, _∙_, subst}
-use mathlib.Core.Logic.{_⊎_, inl, inr}
-use mathlib.Core.Bool.{Bool, true, false, not}
+use mathlib.Core.Logic.{inl, inr}
+use mathlib.Core.Bool.{not}
 use mathlib.Core.List.{List, [], _∷_}
 use Prim.Native.Nat.{ℕ, zero, suc, _+_, _-_, _<_}
 use native.Mathlib.Omega.{arith}
@@ -10,18 +10,16 @@ use Rattle.std.specs.Options.{Cases as BySome, isSome}
 use Rattle.std.specs.declared.option.Option.{Option}
 use Rattle.std.specs.declared.option.Option.the-variants.{Some, None}
 use Rattle.std.proofs.shelf.Tests.{eq-eqb, ne-eqb, cases-eq, cond-false}
-use Rattle.std.proofs.shelf.Ways.{tells}
 use Rattle.quantities.specs.declared.ids.TaskId.{TaskId}
 use Rattle.queues.specs.Members.{Member, Free, rest}
 use Rattle.queues.specs.Outcomes.{First}
 use Rattle.queues.specs.declared.queue_id.QueueId.{QueueId}
-use Rattle.sched.specs.declared.locks.Locks.{Locks}
 use Rattle.sched.specs.House.{House, firstOf, restOf, runner}
 use Rattle.sched.specs.Promise.{Comes, times}
-use Rattle.sched.specs.Stores.{Locked, ownerOf}
-use Rattle.sched.proofs.model.Stands.{times-one, times-none, waits-in}
-use Rattle.sched.proofs.model.Runner.{runner-self, runner-next}
-use Rattle.sched.proofs.model.Rings.{comes-stands, waiter-is-task, owner-is-task}
+use Rattle.sched.specs.Stores.{ownerOf}
+use Rattle.sched.proofs.model.Stands.{times-one, waits-in}
+use Rattle.sched.proofs.model.Runner.{runner-next}
+use Rattle.sched.proofs.model.Rings.{comes-stands, waiter-is-task}
 
 member-times : (i : ℕ) (l : List ℕ) → Member i l → 0 < times i l
 unfolding times

@@ -1,7 +1,6 @@
 -- Why a call is turned away, by number.
 -- Assumes nothing.
 use mathlib.Core.Bool.{Bool, true, false}
-use Prim.Native.Nat.{ℕ}
 use Rattle.sched.specs.declared.Answer.{Answer}
 use Rattle.sched.specs.declared.Answer.the-variants.{Done, Id, No}
 use Rattle.sched.specs.declared.refusal.Refusal.{Refusal}

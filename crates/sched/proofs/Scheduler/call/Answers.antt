@@ -1,3 +1,4 @@
+-- Each call is answered by its own function.
 use mathlib.Core.Path.{sym, subst}
 use Rattle.sched.proofs.Told.{Told}
 use Rattle.sched.proofs.Scheduler.call.Needs as need

@@ -1,3 +1,4 @@
+-- Each test of the code is the one of the rules, in their order; then the task is gone and leaves its share.
 use mathlib.Core.Path.{refl, sym, _∙_, subst}
 use Rattle.std.proofs.shelf.Tests.{false≢true}
 use Rattle.sched.specs.declared.Call.the-variants.{End}

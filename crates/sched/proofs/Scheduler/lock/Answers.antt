@@ -1,3 +1,4 @@
+-- Each test of the code is the one of the rules, in their order; then the lock is taken, or waited for.
 use mathlib.Core.Path.{_≡_, refl, sym, _∙_}
 use mathlib.Core.Bool.{Bool, true, false, not, _||_}
 use native.Mathlib.Omega.{arith}

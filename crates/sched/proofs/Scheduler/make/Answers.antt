@@ -1,16 +1,15 @@
+-- Free places and shares are those of the house; then each part stores what it keeps of a new task.
 use mathlib.Core.Path.{_≡_, refl, sym, ap, _∙_, subst}
 use mathlib.Core.Bool.{true, false}
-use Prim.Native.Nat.{ℕ, _+_, _<_, _≤_}
 use native.Mathlib.Omega.{arith}
 use Rattle.std.proofs.shelf.Tests.{false≢true, lt-ltb, le-ltb}
 use Rattle.sched.specs.declared.Call.the-variants.{Make}
-use Rattle.sched.specs.declared.Answer.{Answer}
 use Rattle.sched.specs.declared.Answer.the-variants.{Id}
 use Rattle.sched.specs.declared.Scheduler.{Scheduler}
-use Rattle.sched.specs.House.{House, out, isNobody, shareOfKind, shareOf, good, newAt, first, sum}
+use Rattle.sched.specs.House.{House, out, isNobody, shareOfKind, good, newAt}
 use Rattle.sched.specs.Stores.{kindOf, Holds}
 use Rattle.sched.proofs.Bounded.{first-is}
-use Rattle.sched.proofs.Told.{Told, turned-away, granted, free-told, first-told, shares-told}
+use Rattle.sched.proofs.Told.{Told, turned-away, granted, free-told, new-place-told, shares-told}
 use Rattle.sched.proofs.Changes.{stores-made}
 use Rattle.sched.proofs.model.CallWays.{made}
 use Rattle.sched.proofs.model.Outcomes.{make-bad, make-full, make-share, make-done}
@@ -53,7 +52,7 @@ returns c =
     let i = c .in-Some-free-place .i in
     let place = c .in-Some-free-place .ensures tt in
     let t : Scheduler = record { tasks = c .put .last .self; locks = s .locks; reserved = c .made .last .self; fixed = c .made-2 .last .self; fair = c .made-3 .last .self } in
-    let at : (h : House) → Holds s h → newAt h ≡ i .index = λ h k. sym (place .1 ∙ first-told s h k) in
+    let at : (h : House) → Holds s h → newAt h ≡ i .index = λ h k. sym (place .1 ∙ new-place-told s h k) in
     record {
       answered = subst (λ x. Told s t (Make x) (Id (c .number .result))) (promised .0) (granted s t (Make (kindOf p)) (Id (c .number .result)) (made (i .index) (kindOf p))
           (λ h k.

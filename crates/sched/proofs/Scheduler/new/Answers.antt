@@ -1,3 +1,4 @@
+-- Each part stands for what it keeps of the empty house.
 use Rattle.sched.specs.Promise.{begin}
 use Rattle.sched.proofs.model.Quotas.{quotas-empty}
 use Rattle.sched.proofs.Scheduler.new.Needs as need

@@ -1,3 +1,4 @@
+-- No such task, one that waits, or it is asleep from now on.
 use mathlib.Core.Path.{refl, sym, _∙_, subst}
 use mathlib.Core.Bool.{false}
 use Rattle.std.proofs.shelf.Tests.{false≢true}

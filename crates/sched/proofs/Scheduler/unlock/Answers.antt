@@ -1,3 +1,4 @@
+-- Each test of the code is the one of the rules, in their order; then the lock goes to the first in its row.
 use mathlib.Core.Path.{refl, sym, _∙_}
 use Rattle.std.proofs.shelf.Tests.{false≢true, le-leb, lt-leb}
 use Rattle.sched.specs.declared.Call.the-variants.{Unlock}

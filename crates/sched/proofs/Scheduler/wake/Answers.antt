@@ -1,3 +1,4 @@
+-- No such task, or it is awake from now on.
 use mathlib.Core.Path.{refl, subst}
 use mathlib.Core.Bool.{true}
 use Rattle.std.proofs.shelf.Tests.{false≢true}

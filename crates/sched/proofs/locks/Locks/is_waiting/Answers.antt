@@ -1,3 +1,4 @@
+-- Who stands in a row waits, and nobody else does.
 use mathlib.Core.Path.{_∙_}
 use Rattle.sched.proofs.Waiting.{waits-told}
 use Rattle.sched.proofs.locks.Locks.is_waiting.Needs as need

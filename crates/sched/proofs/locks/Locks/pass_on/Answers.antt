@@ -1,9 +1,10 @@
-use mathlib.Core.Path.{sym, ap, _∙_, subst}
+-- Who is taken from the front of the row is its first.
+use mathlib.Core.Path.{ap, _∙_, subst}
 use lib.ListN.{set}
 use Rattle.std.specs.declared.option.Option.the-variants.{None}
 use Rattle.queues.specs.Members.{rest}
 use Rattle.queues.specs.Rings as queue
-use Rattle.sched.specs.House.{put, firstOf, restOf}
+use Rattle.sched.specs.House.{put, firstOf}
 use Rattle.sched.specs.Stores.{ownerOf}
 use Rattle.sched.proofs.Arrays.{reads-written}
 use Rattle.sched.proofs.Waiting.{first-told, rest-told}

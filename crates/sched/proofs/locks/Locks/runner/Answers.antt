@@ -1,3 +1,4 @@
+-- Each turn is one step along the chain; a step more changes nothing at its end.
 use mathlib.Core.Path.{_≡_, refl, sym, ap, _∙_}
 use Prim.Native.Nat.{_-_}
 use native.Mathlib.Omega.{arith}

@@ -1,3 +1,4 @@
+-- Who stands in no row is put last.
 use mathlib.Core.Path.{refl, subst}
 use mathlib.Core.List.{[], _∷_, _++_}
 use Rattle.queues.specs.Rings as queue

@@ -1,3 +1,4 @@
+-- Who stands in a row waits for its lock, and that has an owner.
 use Rattle.std.specs.declared.option.Option.the-variants.{None}
 use Rattle.sched.specs.Stores.{ownerOf}
 use Rattle.sched.proofs.Arrays.{reads-at}

@@ -1,4 +1,5 @@
-use mathlib.Core.Path.{_≡_, refl, sym, ap, _∙_}
+-- There is a promise exactly where the numbers are good.
+use mathlib.Core.Path.{sym, ap, _∙_}
 use Rattle.sched.specs.House.{good}
 use Rattle.sched.proofs.Promises.{reservation-good, reservation-bad, reservation-kind, rank-good, rank-bad, rank-kind, weight-good, weight-bad, weight-kind}
 use Rattle.sched.proofs.promise.Promise.of.Needs as need
