@@ -4,7 +4,7 @@ ghost use mathlib.Core.Bool.{true, false};
 ghost use Prim.Native.Nat.{ℕ, suc, _+_, _<_};
 ghost use Rattle.std.specs.Options.{Cases as BySome};
 ghost use Rattle.virtual_time.specs.Positions.{madeFar, madeRest};
-ghost use Rattle.sched.specs.House.{House, empty, weightOf, fairWants, opened, nearer, leastFar, ticked};
+ghost use Rattle.sched.specs.House.{House, some', empty, weightOf, fairWants, opened, nearer, leastFar, ticked};
 ghost use Rattle.sched.specs.Promise.{Comes};
 ghost use Rattle.sched.specs.Stores.{Reads, placeOf, taskPlace, ownerOf, Stands, FairlyOf, madeAt};
 ghost use Rattle.sched.specs.Begun.{Wanting, StandsAt, Begins, Begun, LeastHas, Passing};
@@ -166,6 +166,12 @@ impl Fair {
 }
 
 pub impl Class for Fair as FairClass {
+    ghost stands = { λ f h. BySome (f .least) (some' 64 (fairWants h) ≡ false) (λ i. leastFar h (i .index) ≡ true) };
+
+    ghost asks = { fairWants };
+
+    ghost owed = { λ h i. leastFar h i ≡ true };
+
     fn candidate(&self, _tasks: &Tasks, _wants: &Wants) -> Option<TaskId> {
         self.least
     }
