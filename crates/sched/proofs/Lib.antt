@@ -1,7 +1,16 @@
+pub mod Arrays
 pub mod Bounded
+pub mod Changes
 pub mod Demand
 pub mod Fractions
+pub mod Keep
+pub mod Lives
+pub mod Promises
 pub mod Puts
+pub mod Standing
 pub mod Sums
 pub mod Tests
+pub mod Told
+pub mod TurnKept
+pub mod Waiting
 pub mod model

@@ -1,6 +1,7 @@
 pub mod CallWays
 pub mod Fairness
 pub mod Kinds
+pub mod Outcomes
 pub mod Places
 pub mod Position
 pub mod Positions
@@ -11,4 +12,5 @@ pub mod Shares
 pub mod Stands
 pub mod TakeWays
 pub mod Ticks
+pub mod Turn
 pub mod Windows

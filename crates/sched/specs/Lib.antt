@@ -4,5 +4,7 @@ pub mod Nearer
 pub mod Policy
 pub mod Promise
 pub mod Quotas
+pub mod Refusals
 pub mod Stores
+pub mod Turns
 pub mod Windows

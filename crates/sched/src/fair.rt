@@ -6,6 +6,12 @@ use crate::wants::Wants;
 use quantities::ids::TaskId;
 use quantities::promises::Weight;
 use virtual_time::position::Position;
+ghost use mathlib.Core.Path.{_≡_};
+ghost use Prim.Native.Nat.{ℕ, _+_, _<_};
+ghost use Rattle.virtual_time.specs.Positions.{madeFar, madeRest};
+ghost use Rattle.sched.specs.House.{House, empty, weightOf};
+ghost use Rattle.sched.specs.Stores.{placeOf, Stands, FairlyOf, madeAt};
+ghost use Rattle.sched.specs.declared.tasks.Slot.the-variants as slot;
 
 // Positions are taken down when the mark has come so far, so that they stay small for ever.
 const FAR: u32 = 1024;
@@ -22,7 +28,9 @@ pub struct Fair {
 }
 
 impl Fair {
-    pub fn new() -> Fair {
+    pub fn new() -> Fair
+        ensures { λ r. ⌜ FairlyOf r empty ⌝ }
+    {
         let start = Position::start(Weight::one());
         Fair {
             positions: [start; 64],
@@ -32,14 +40,11 @@ impl Fair {
         }
     }
 
-    // A new fair task begins one part beyond the mark, and has nothing from whoever was at its place before.
-    pub fn made(&mut self, i: TaskId, promise: Promise) {
-        let position = match promise {
-            Promise::Reserved(_) => Position::start(Weight::one()),
-            Promise::Fixed(_) => Position::start(Weight::one()),
-            Promise::Fair(weight) => self.mark.beyond(weight),
-        };
-        self.positions[i.index()] = position;
+    // A new task at a place has nothing from whoever was there before.
+    pub fn made(&mut self, i: TaskId, promise: Promise)
+        ensures { λ _. ⌜ ((h : House) → FairlyOf (now (self .entry)) h → FairlyOf (now (self .exit)) (madeAt (i .index) promise h)) ⌝ }
+    {
+        self.positions[i.index()] = self.beginning(promise);
         self.wanted[i.index()] = false;
     }
 
@@ -71,6 +76,17 @@ impl Fair {
         }
         if self.mark.whole() >= FAR {
             self.take_down();
+        }
+    }
+
+    // A new fair task begins one part beyond the mark.
+    fn beginning(&self, promise: Promise) -> Position
+        ensures { λ r. ⌜ ((base w : ℕ) → weightOf (placeOf (slot.Task promise)) ≡ w → 0 < w → now (self .entry) .mark .whole < 1024 → Stands base w (base + madeFar (now (self .entry) .mark .whole) (now (self .entry) .mark .rest) (now (self .entry) .mark .weight .value) w) (madeRest (now (self .entry) .mark .rest) (now (self .entry) .mark .weight .value) w) r) ⌝ }
+    {
+        match promise {
+            Promise::Reserved(_) => Position::start(Weight::one()),
+            Promise::Fixed(_) => Position::start(Weight::one()),
+            Promise::Fair(weight) => self.mark.beyond(weight),
         }
     }
 

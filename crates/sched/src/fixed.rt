@@ -1,4 +1,12 @@
 // Fixed tasks: by rank, and within a rank in turn.
+ghost use mathlib.Core.Path.{_≡_};
+ghost use mathlib.Core.Bool.{true, false};
+ghost use mathlib.Core.List.{List, [], _∷_, _++_};
+ghost use Prim.Native.Nat.{ℕ};
+ghost use Rattle.sched.specs.House.{Place, empty, isFixed, without, put};
+ghost use Rattle.sched.specs.Promise.{times};
+ghost use Rattle.sched.specs.Stores.{TurnOf, ownerOf, taskPlace};
+ghost use Rattle.sched.specs.Turns.{OnceInTurn, turnAfter};
 use crate::class::Class;
 use crate::promise::Promise;
 use crate::tasks::Tasks;
@@ -15,14 +23,18 @@ pub struct Fixed {
 }
 
 impl Fixed {
-    pub fn new() -> Fixed {
+    pub fn new() -> Fixed
+        ensures { λ r. ⌜ TurnOf r (empty .place) (empty .turn) ⌝ }
+    {
         Fixed {
             turn: Queues::new(),
         }
     }
 
     // A new fixed task is the last of its rank.
-    pub fn made(&mut self, i: TaskId, promise: Promise) {
+    pub fn made(&mut self, i: TaskId, promise: Promise)
+        ensures { λ _. ⌜ ((place : ℕ → Place) (turn : List ℕ) → TurnOf (now (self .entry)) place turn → times (i .index) turn ≡ 0 → TurnOf (now (self .exit)) (put (i .index) (taskPlace promise) place) (turn ++ (i .index ∷ []))) ⌝ }
+    {
         match promise {
             Promise::Reserved(_) => {}
             Promise::Fixed(rank) => {
@@ -32,14 +44,21 @@ impl Fixed {
         }
     }
 
-    pub fn ended(&mut self, i: TaskId) {
+    pub fn ended(&mut self, i: TaskId)
+        ensures { λ _. ⌜ ((place : ℕ → Place) (turn : List ℕ) (p : Place) → TurnOf (now (self .entry)) place turn → isFixed p ≡ false → TurnOf (now (self .exit)) (put (i .index) p place) (without (i .index) turn)) ⌝ }
+    {
         let _removed = self.turn.remove(i);
     }
 
     // A fixed task whose tick it was is the last of its rank, whoever ran in it.
-    pub fn pass(&mut self, whose: Option<TaskId>) {
-        if let Some(i) = whose {
-            let _moved = self.turn.move_to_back(i);
+    pub fn pass(&mut self, whose: Option<TaskId>)
+        ensures { λ _. ⌜ ((place : ℕ → Place) (turn : List ℕ) → TurnOf (now (self .entry)) place turn → OnceInTurn place turn → TurnOf (now (self .exit)) place (turnAfter (ownerOf whose) place turn)) ⌝ }
+    {
+        match whose {
+            Some(i) => {
+                let _moved = self.turn.move_to_back(i);
+            }
+            None => {}
         }
     }
 

@@ -7,6 +7,8 @@ ghost use Rattle.sched.specs.House.{House, empty, calls, mayRun, after, goesOn
 ghost use Rattle.sched.specs.Promise.{NoRings, SharesFit, RowsStand, NearEachOther};
 ghost use Rattle.sched.specs.Windows.{WindowsWellFormed};
 ghost use Rattle.sched.specs.Policy.{QuotasHad};
+ghost use Rattle.sched.specs.Refusals.{isNo};
+ghost use Rattle.sched.specs.Stores.{Holds};
 
 mod calls;
 mod class;
@@ -91,7 +93,9 @@ pub struct Scheduler {
 
 impl Scheduler {
     // No task, no lock held.
-    pub fn new() -> Scheduler {
+    pub fn new() -> Scheduler
+        ensures { λ r. ⌜ Holds r empty ⌝ }
+    {
         Scheduler {
             tasks: Tasks::new(),
             locks: Locks::new(),
@@ -101,8 +105,11 @@ impl Scheduler {
         }
     }
 
-    // A call, and its answer.
-    pub fn call(&mut self, c: Call) -> Answer {
+    // A call, and its answer: the rules' own, with the house as they leave it. Turned away, a call changes nothing.
+    pub fn call(&mut self, c: Call) -> Answer
+        ensures answered { λ r. ⌜ ((h : House) → Holds (now (self .entry)) h → (r ≡ calls c h .answer) × Holds (now (self .exit)) (calls c h .house)) ⌝ }
+        ensures refused { λ r. ⌜ (isNo r ≡ true → now (self .exit) ≡ now (self .entry)) ⌝ }
+    {
         match c {
             Call::Make(kind) => self.make(kind),
             Call::End(i) => self.end(i),

@@ -1,5 +1,11 @@
 // What a task was promised, with its numbers known to be good.
-ghost use Prim.Native.Nat.{_≤_};
+ghost use mathlib.Core.Path.{_≡_};
+ghost use mathlib.Core.Bool.{true, false};
+ghost use Prim.Native.Nat.{_<_, _≤_};
+ghost use lib.Dec.{ltb};
+ghost use Rattle.std.specs.Options.{Cases as BySome};
+ghost use Rattle.sched.specs.House.{good, shareOfKind, isReserved, weightOf};
+ghost use Rattle.sched.specs.Stores.{kindOf, taskPlace, reservedPlace};
 use crate::Kind;
 use quantities::promises::Rank;
 use quantities::promises::Reservation;
@@ -14,7 +20,9 @@ pub enum Promise {
 
 impl Promise {
     // The promise of this kind, if its numbers are good.
-    pub fn of(kind: Kind) -> Option<Promise> {
+    pub fn of(kind: Kind) -> Option<Promise>
+        ensures { λ r. ⌜ BySome r (good kind ≡ false) (λ p. (kindOf p ≡ kind) × (good kind ≡ true)) ⌝ }
+    {
         match kind {
             Kind::Reserved(quota, period) => {
                 let Some(reservation) = Reservation::new(quota, period) else {
@@ -37,7 +45,9 @@ impl Promise {
         }
     }
 
-    pub fn is_fair(self) -> bool {
+    pub fn is_fair(self) -> bool
+        ensures { λ r. ⌜ r ≡ ltb 0 (weightOf (taskPlace self)) ⌝ }
+    {
         match self {
             Promise::Reserved(_) => false,
             Promise::Fixed(_) => false,
@@ -45,7 +55,9 @@ impl Promise {
         }
     }
 
-    pub fn reservation(self) -> Option<Reservation> {
+    pub fn reservation(self) -> Option<Reservation>
+        ensures { λ r. ⌜ BySome r (isReserved (taskPlace self) ≡ false) (λ x. taskPlace self ≡ reservedPlace (x .quota) (x .period)) ⌝ }
+    {
         match self {
             Promise::Reserved(reservation) => Some(reservation),
             Promise::Fixed(_) => None,
@@ -55,7 +67,8 @@ impl Promise {
 
     // Its part of the processor, in 10,080ths; only a reservation has one.
     pub fn share(self) -> u32
-        ensures { λ r. ⌜ r ≤ 10080 ⌝ }
+        ensures value { λ r. ⌜ r ≡ shareOfKind (kindOf self) ⌝ }
+        ensures bound { λ r. ⌜ r ≤ 10080 ⌝ }
     {
         match self {
             Promise::Reserved(reservation) => reservation.share().parts(),

@@ -1,4 +1,6 @@
 // Why a call is turned away.
+ghost use mathlib.Core.Path.{_≡_};
+ghost use Rattle.sched.specs.Refusals.{refusedBy};
 use crate::Answer;
 
 #[derive(Clone, Copy)]
@@ -22,7 +24,9 @@ pub enum Refusal {
 }
 
 impl Refusal {
-    pub fn answer(self) -> Answer {
+    pub fn answer(self) -> Answer
+        ensures { λ r. ⌜ r ≡ refusedBy self ⌝ }
+    {
         Answer::No(self as u32)
     }
 }

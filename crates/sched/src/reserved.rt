@@ -1,4 +1,9 @@
 // Reserved tasks: a window each, of which the quota is had in time.
+ghost use mathlib.Core.Path.{_≡_};
+ghost use lib.ListN.{getD, set};
+ghost use Rattle.windows.specs.declared.Window.the-variants as window-is;
+ghost use Rattle.sched.specs.House.{empty, leaves};
+ghost use Rattle.sched.specs.Stores.{Reads, placeOf, windowOf};
 use crate::class::Class;
 use crate::tasks::Slot;
 use crate::tasks::Tasks;
@@ -12,21 +17,33 @@ pub struct Reserved {
 }
 
 impl Reserved {
-    pub fn new() -> Reserved {
+    pub fn new() -> Reserved
+        ensures { λ r. ⌜ Reads windowOf window-is.Shut (r .windows) (empty .window) ⌝ }
+    {
         Reserved {
             windows: [Window::Shut; 64],
         }
     }
 
     // A new task has no window yet.
-    pub fn made(&mut self, i: TaskId) {
+    pub fn made(&mut self, i: TaskId)
+        ensures { λ _. ⌜ now (self .exit) .windows ≡ set (now (self .entry) .windows) (i .index) window-is.Shut ⌝ }
+    {
         self.windows[i.index()] = Window::Shut;
+    }
+
+    fn window(&self, i: TaskId) -> Window
+        ensures { λ r. ⌜ r ≡ getD (now (self .entry) .windows) (i .index) window-is.Shut ⌝ }
+    {
+        self.windows[i.index()]
     }
 
     // What a task leaves at its place when it ends: its share, while a window is open. Were the share free at once, it
     // could be made again and had twice in one window.
-    pub fn leaves(&self, i: TaskId, slot: Slot) -> Slot {
-        if !self.windows[i.index()].is_open() {
+    pub fn leaves(&self, i: TaskId, slot: Slot) -> Slot
+        ensures { λ r. ⌜ placeOf r ≡ leaves (windowOf (getD (now (self .entry) .windows) (i .index) window-is.Shut)) (placeOf slot) ⌝ }
+    {
+        if !self.window(i).is_open() {
             return Slot::Free;
         }
         match slot.reservation() {

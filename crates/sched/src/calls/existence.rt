@@ -1,5 +1,11 @@
 // make and end.
+ghost use mathlib.Core.Path.{_≡_};
+ghost use mathlib.Core.Bool.{true};
+ghost use Rattle.sched.specs.House.{House, calls};
+ghost use Rattle.sched.specs.Refusals.{isNo};
+ghost use Rattle.sched.specs.Stores.{Holds};
 use crate::Answer;
+use crate::Call;
 use crate::Kind;
 use crate::Scheduler;
 use crate::promise::Promise;
@@ -9,7 +15,10 @@ use crate::refusal::Refusal;
 const MOST_SHARES: u32 = 7560;
 
 impl Scheduler {
-    pub(crate) fn make(&mut self, kind: Kind) -> Answer {
+    pub(crate) fn make(&mut self, kind: Kind) -> Answer
+        ensures answered { λ r. ⌜ ((h : House) → Holds (now (self .entry)) h → (r ≡ calls (Call.Make kind) h .answer) × Holds (now (self .exit)) (calls (Call.Make kind) h .house)) ⌝ }
+        ensures refused { λ r. ⌜ (isNo r ≡ true → now (self .exit) ≡ now (self .entry)) ⌝ }
+    {
         let Some(promise) = Promise::of(kind) else {
             return Refusal::BadNumber.answer();
         };
@@ -26,7 +35,10 @@ impl Scheduler {
         Answer::Id(i.number())
     }
 
-    pub(crate) fn end(&mut self, number: u32) -> Answer {
+    pub(crate) fn end(&mut self, number: u32) -> Answer
+        ensures answered { λ r. ⌜ ((h : House) → Holds (now (self .entry)) h → (r ≡ calls (Call.End number) h .answer) × Holds (now (self .exit)) (calls (Call.End number) h .house)) ⌝ }
+        ensures refused { λ r. ⌜ (isNo r ≡ true → now (self .exit) ≡ now (self .entry)) ⌝ }
+    {
         let Some(i) = self.tasks.find(number) else {
             return Refusal::NoTask.answer();
         };

@@ -1,11 +1,20 @@
 // lock and unlock.
+ghost use mathlib.Core.Path.{_≡_};
+ghost use mathlib.Core.Bool.{true};
+ghost use Rattle.sched.specs.House.{House, calls};
+ghost use Rattle.sched.specs.Refusals.{isNo};
+ghost use Rattle.sched.specs.Stores.{Holds};
 use crate::Answer;
+use crate::Call;
 use crate::Scheduler;
 use crate::refusal::Refusal;
 use quantities::ids::LockId;
 
 impl Scheduler {
-    pub(crate) fn lock(&mut self, number: u32, lock: u32) -> Answer {
+    pub(crate) fn lock(&mut self, number: u32, lock: u32) -> Answer
+        ensures answered { λ r. ⌜ ((h : House) → Holds (now (self .entry)) h → (r ≡ calls (Call.Lock number lock) h .answer) × Holds (now (self .exit)) (calls (Call.Lock number lock) h .house)) ⌝ }
+        ensures refused { λ r. ⌜ (isNo r ≡ true → now (self .exit) ≡ now (self .entry)) ⌝ }
+    {
         let Some(i) = self.tasks.find(number) else {
             return Refusal::NoTask.answer();
         };
@@ -27,7 +36,10 @@ impl Scheduler {
         Answer::Done
     }
 
-    pub(crate) fn unlock(&mut self, number: u32, lock: u32) -> Answer {
+    pub(crate) fn unlock(&mut self, number: u32, lock: u32) -> Answer
+        ensures answered { λ r. ⌜ ((h : House) → Holds (now (self .entry)) h → (r ≡ calls (Call.Unlock number lock) h .answer) × Holds (now (self .exit)) (calls (Call.Unlock number lock) h .house)) ⌝ }
+        ensures refused { λ r. ⌜ (isNo r ≡ true → now (self .exit) ≡ now (self .entry)) ⌝ }
+    {
         let Some(i) = self.tasks.find(number) else {
             return Refusal::NoTask.answer();
         };
