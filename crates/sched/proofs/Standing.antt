@@ -15,7 +15,7 @@ use Rattle.virtual_time.specs.declared.position.Position.{Position}
 use Rattle.virtual_time.specs.Positions.{capped, upRest, madeFar, madeRest}
 use Rattle.sched.specs.declared.fair.Fair.{Fair}
 use Rattle.sched.specs.House.{House, Place, Nobody, empty, put, weightOf}
-use Rattle.sched.specs.Stores.{Near, Stands, Marks, AllStand, Fairly, FairlyOf}
+use Rattle.sched.specs.Stores.{Near, Stands, Exact, AllStand, Fairly, FairlyOf}
 use Rattle.sched.proofs.Arrays.{reads-replicate, reads-set}
 use Rattle.sched.proofs.Fractions.{ceiling-fits}
 use Rattle.sched.proofs.Puts.{put-at, put-else}
@@ -28,7 +28,7 @@ fairly-new start whole rest weight =
     record {
       base = 0;
       all = record { len = length-replicate 64 start; each = λ i d _ l. absurd (omega arith) };
-      mark = record { whole = omega arith; part = sym rest; over' = sym weight };
+      mark = record { weight = weight; whole = omega arith; part = sym rest };
       flags = reads-replicate (λ (b : Bool). b) false;
       low = omega arith;
     }
@@ -85,7 +85,7 @@ fairly-made f place far rest m s o wanted i x p li fairly begins =
 
     here : 0 < weightOf x → Stands (fairly .base) (weightOf x) far' rest' p
     here heavy =
-        rw (lt-ltb 0 (weightOf x) heavy, fairly .mark .whole, fairly .mark .part, fairly .mark .over', add-assoc (fairly .base) (f .mark .whole) _) (begins (fairly .base) (weightOf x) refl heavy (fairly .low))
+        rw (lt-ltb 0 (weightOf x) heavy, fairly .mark .whole, fairly .mark .part, ← fairly .mark .weight, add-assoc (fairly .base) (f .mark .whole) _) (begins (fairly .base) (weightOf x) refl heavy (fairly .low))
 
 -- places at which no weight is new
 pub fairly-placed : {f : Fair} {place : ℕ → Place} {far rest : ℕ → ℕ} {m s o : ℕ} {wanted : ℕ → Bool} (p : ℕ → Place) → ((i : ℕ) → 0 < weightOf (p i) → weightOf (p i) ≡ weightOf (place i)) →

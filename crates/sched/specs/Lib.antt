@@ -1,5 +1,7 @@
+pub mod Begun
 pub mod Demand
 pub mod House
+pub mod Midtick
 pub mod Nearer
 pub mod Policy
 pub mod Promise

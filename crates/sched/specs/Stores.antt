@@ -91,11 +91,11 @@ pub record Stands (base w far rest : ℕ) (p : Position) : Type 0 where
   pub weight : p .weight .value ≡ w
   pub near : Near base far rest (p .whole) (p .rest)
 
--- what is kept for the mark, of which no part is lost
-pub record Marks (base far rest over : ℕ) (p : Position) : Type 0 where
+-- the same, of which no part is lost: the mark, and whoever wants a tick
+pub record Exact (base w far rest : ℕ) (p : Position) : Type 0 where
+  pub weight : p .weight .value ≡ w
   pub whole : far ≡ base + p .whole
   pub part : rest ≡ p .rest
-  pub over' : over ≡ p .weight .value
 
 -- what is kept for each fair task
 pub record AllStand (base : ℕ) (positions : List Position) (place : ℕ → Place) (far rest : ℕ → ℕ) : Type 0 where
@@ -106,7 +106,7 @@ pub record AllStand (base : ℕ) (positions : List Position) (place : ℕ → Pl
 pub record Fairly (f : code-fair.Fair) (place : ℕ → Place) (far rest : ℕ → ℕ) (markFar markRest markOver : ℕ) (wanted : ℕ → Bool) : Type 0 where
   pub base : ℕ
   pub all : AllStand base (f .positions) place far rest
-  pub mark : Marks base markFar markRest markOver (f .mark)
+  pub mark : Exact base markOver markFar markRest (f .mark)
   pub flags : Reads (λ (b : Bool). b) false (f .wanted) wanted
   pub low : f .mark .whole < 1024
 
