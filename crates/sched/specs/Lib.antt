@@ -2,7 +2,6 @@ pub mod Begun
 pub mod Demand
 pub mod House
 pub mod Midtick
-pub mod Nearer
 pub mod Policy
 pub mod Promise
 pub mod Quotas
