@@ -78,7 +78,11 @@ fn word_meets(want: &str, got: &str) -> bool {
 }
 
 fn is_near(middle: &str, off: &str, got: &str) -> bool {
-    match (middle.parse::<u64>(), off.parse::<u64>(), got.parse::<u64>()) {
+    match (
+        middle.parse::<u64>(),
+        off.parse::<u64>(),
+        got.parse::<u64>(),
+    ) {
         (Ok(m), Ok(d), Ok(n)) => n <= m.saturating_add(d) && m <= n.saturating_add(d),
         (_, _, _) => false,
     }

@@ -3,7 +3,7 @@ mod expectation;
 mod transcript;
 
 use expectation::first_difference;
-use script::player::Player;
+use player::Player;
 use std::error::AnyError;
 use std::fs::File;
 use std::io::Read;
@@ -15,16 +15,66 @@ fn main(rt: LibcRuntime) -> Result<(), AnyError> {
 }
 
 fn play_all(rt: &LibcRuntime) -> Result<(), AnyError> {
-    example(rt, "refusals of bad kinds", "bad-kinds.script", "bad-kinds.expected")?;
-    example(rt, "a share that fits and one that doesn't", "shares.script", "shares.expected")?;
-    example(rt, "locking twice", "locking-twice.script", "locking-twice.expected")?;
-    example(rt, "a ring of two", "ring-of-two.script", "ring-of-two.expected")?;
-    example(rt, "reserved beside fixed", "reserved-and-fixed.script", "reserved-and-fixed.expected")?;
-    example(rt, "fair by weight", "fair-by-weight.script", "fair-by-weight.expected")?;
-    example(rt, "fair after a long sleep", "fair-after-sleep.script", "fair-after-sleep.expected")?;
-    example(rt, "lending to whoever has the lock", "lending.script", "lending.expected")?;
-    example(rt, "a share kept after its task ended", "kept-share.script", "kept-share.expected")?;
-    example(rt, "lines that are no commands", "malformed.script", "malformed.expected")
+    example(
+        rt,
+        "refusals of bad kinds",
+        "bad-kinds.script",
+        "bad-kinds.expected",
+    )?;
+    example(
+        rt,
+        "a share that fits and one that doesn't",
+        "shares.script",
+        "shares.expected",
+    )?;
+    example(
+        rt,
+        "locking twice",
+        "locking-twice.script",
+        "locking-twice.expected",
+    )?;
+    example(
+        rt,
+        "a ring of two",
+        "ring-of-two.script",
+        "ring-of-two.expected",
+    )?;
+    example(
+        rt,
+        "reserved beside fixed",
+        "reserved-and-fixed.script",
+        "reserved-and-fixed.expected",
+    )?;
+    example(
+        rt,
+        "fair by weight",
+        "fair-by-weight.script",
+        "fair-by-weight.expected",
+    )?;
+    example(
+        rt,
+        "fair after a long sleep",
+        "fair-after-sleep.script",
+        "fair-after-sleep.expected",
+    )?;
+    example(
+        rt,
+        "lending to whoever has the lock",
+        "lending.script",
+        "lending.expected",
+    )?;
+    example(
+        rt,
+        "a share kept after its task ended",
+        "kept-share.script",
+        "kept-share.expected",
+    )?;
+    example(
+        rt,
+        "lines that are no commands",
+        "malformed.script",
+        "malformed.expected",
+    )
 }
 
 // Says whether the script of this name is answered as expected.
@@ -35,7 +85,10 @@ fn example(rt: &LibcRuntime, title: &str, script: &str, expected: &str) -> Resul
     read_into(rt, expected, &mut wanted)?;
     match first_difference(wanted.text()?, room.text()?) {
         None => println!(rt, "{title}: as the rules say")?,
-        Some(line) => println!(rt, "{title}: other than the rules say, at line {line} of {expected}")?,
+        Some(line) => println!(
+            rt,
+            "{title}: other than the rules say, at line {line} of {expected}"
+        )?,
     }
     Ok(())
 }

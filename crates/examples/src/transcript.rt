@@ -13,7 +13,10 @@ pub struct Room {
 
 impl Room {
     pub fn new() -> Room {
-        Room { bytes: [0; 65536], len: 0 }
+        Room {
+            bytes: [0; 65536],
+            len: 0,
+        }
     }
 
     // These bytes too, or none of them and false if there is no room.
@@ -38,6 +41,10 @@ impl Room {
 
 pub impl Sink for Room as RoomSink {
     fn take(&mut self, lines: &[u8]) -> Result<(), Stopped> {
-        if self.push(lines) { Ok(()) } else { Err(Stopped) }
+        if self.push(lines) {
+            Ok(())
+        } else {
+            Err(Stopped)
+        }
     }
 }

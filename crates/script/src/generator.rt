@@ -11,7 +11,9 @@ pub struct Generator {
 
 impl Generator {
     pub fn new(seed: u32) -> Generator {
-        Generator { state: u64::from(seed) }
+        Generator {
+            state: u64::from(seed),
+        }
     }
 
     // The next call or tick.
@@ -87,14 +89,20 @@ impl Generator {
     fn pick(&mut self, often: u32, seldom: u32) -> u32
         requires { ⌜ 0 < often ⌝ ∗ ⌜ 0 < seldom ⌝ }
     {
-        if self.below(8) == 0 { self.below(seldom) } else { self.below(often) }
+        if self.below(8) == 0 {
+            self.below(seldom)
+        } else {
+            self.below(often)
+        }
     }
 
     fn below(&mut self, bound: u32) -> u32
         requires { ⌜ 0 < bound ⌝ }
         ensures { λ r. ⌜ r < bound ⌝ }
     {
-        self.state = self.state.wrapping_mul(6364136223846793005).wrapping_add(1442695040888963407);
+        self.state = self.state
+            .wrapping_mul(6364136223846793005)
+            .wrapping_add(1442695040888963407);
         ((self.state >> 33) % u64::from(bound)) as u32
     }
 }

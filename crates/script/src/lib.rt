@@ -1,8 +1,6 @@
-// The script language: a line to a command, commands to calls and ticks, answers to text.
+// The script language: a line to a command, an answer to text, and how `any` chooses.
 pub mod command;
 pub mod generator;
 pub mod line;
 pub mod page;
-pub mod player;
-pub mod theatre;
 pub mod word;

@@ -25,7 +25,10 @@ pub struct Page {
 
 impl Page {
     pub fn new() -> Page {
-        Page { bytes: [0; 65536], len: 0 }
+        Page {
+            bytes: [0; 65536],
+            len: 0,
+        }
     }
 
     // What was gathered is handed on.

@@ -1,7 +1,7 @@
 // Plays the script on standard input, and writes the answers to standard output.
+use player::Player;
 use script::page::Sink;
 use script::page::Stopped;
-use script::player::Player;
 use std::error::AnyError;
 use std::io::Read;
 

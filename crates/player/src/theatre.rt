@@ -12,7 +12,10 @@ pub struct Theatre {
 
 impl Theatre {
     pub fn new() -> Theatre {
-        Theatre { scheduler: Scheduler::new(), had: [None; 64] }
+        Theatre {
+            scheduler: Scheduler::new(),
+            had: [None; 64],
+        }
     }
 
     pub fn call(&mut self, call: Call) -> Answer {

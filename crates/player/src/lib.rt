@@ -1,13 +1,15 @@
 // Plays a script as it comes in, and writes the answers.
-use crate::command::Command;
-use crate::generator::Generator;
-use crate::line::Line;
-use crate::page::Page;
-use crate::page::Sink;
-use crate::page::Stopped;
-use crate::theatre::Theatre;
+mod theatre;
+
 use sched::Answer;
 use sched::Next;
+use script::command::Command;
+use script::generator::Generator;
+use script::line::Line;
+use script::page::Page;
+use script::page::Sink;
+use script::page::Stopped;
+use theatre::Theatre;
 
 #[derive(Drop)]
 pub struct Player {
@@ -20,7 +22,12 @@ pub struct Player {
 
 impl Player {
     pub fn new() -> Player {
-        Player { theatre: Theatre::new(), page: Page::new(), line: Line::new(), lines: 0 }
+        Player {
+            theatre: Theatre::new(),
+            page: Page::new(),
+            line: Line::new(),
+            lines: 0,
+        }
     }
 
     // More of the script. The answers to all of its whole lines have been handed on when it returns.
@@ -101,7 +108,12 @@ impl Player {
         self.page.end_line(out)
     }
 
-    fn write_tick<S: Sink>(&mut self, whose: Option<u32>, runs: u32, out: &mut S) -> Result<(), Stopped> {
+    fn write_tick<S: Sink>(
+        &mut self,
+        whose: Option<u32>,
+        runs: u32,
+        out: &mut S,
+    ) -> Result<(), Stopped> {
         match whose {
             Some(i) => {
                 self.page.number(u64::from(i));
