@@ -1,18 +1,19 @@
 // Plays a script as it comes in, and writes the answers.
-use crate::command::Command;
-use crate::generator::Generator;
-use crate::line::Line;
-use crate::page::Page;
-use crate::page::Sink;
-use crate::page::Stopped;
-use crate::theatre::Theatre;
-use sched::Answer;
+mod theatre;
+
 use sched::Next;
+use script::command::Command;
+use script::generator::Generator;
+use script::line::Line;
+use script::printer::Printer;
+use script::sink::Sink;
+use script::sink::Stopped;
+use theatre::Theatre;
 
 #[derive(Drop)]
 pub struct Player {
     theatre: Theatre,
-    page: Page,
+    printer: Printer,
     line: Line,
     // how many lines were ended
     lines: u64,
@@ -22,7 +23,7 @@ impl Player {
     pub fn new() -> Player {
         Player {
             theatre: Theatre::new(),
-            page: Page::new(),
+            printer: Printer::new(),
             line: Line::new(),
             lines: 0,
         }
@@ -37,7 +38,7 @@ impl Player {
                 self.line.push(*byte);
             }
         }
-        self.page.flush(out)
+        self.printer.flush(out)
     }
 
     // The script is over; a last line may lack its newline.
@@ -45,7 +46,7 @@ impl Player {
         if self.line.is_begun() {
             self.end_line(out)?;
         }
-        self.page.flush(out)
+        self.printer.flush(out)
     }
 
     fn end_line<S: Sink>(&mut self, out: &mut S) -> Result<(), Stopped> {
@@ -55,22 +56,22 @@ impl Player {
         match command {
             Some(Command::Call(call)) => {
                 let answer = self.theatre.call(call);
-                self.write_answer(answer, out)
+                self.printer.answer(answer, out)
             }
             Some(Command::Tick(many)) => self.ticks(many, out),
-            Some(Command::Had) => self.write_had(out),
+            Some(Command::Had) => self.printer.had(self.theatre.counts(), out),
             Some(Command::Any(seed, many)) => {
                 self.any(seed, many);
                 Ok(())
             }
-            None => self.write_bad_line(out),
+            None => self.printer.bad_line(self.lines, out),
         }
     }
 
     fn ticks<S: Sink>(&mut self, many: u32, out: &mut S) -> Result<(), Stopped> {
         for _k in 0..many {
             let (whose, runs) = self.theatre.tick();
-            self.write_tick(whose, runs, out)?;
+            self.printer.tick(whose, runs, out)?;
         }
         Ok(())
     }
@@ -89,57 +90,5 @@ impl Player {
                 Next::Over => {}
             }
         }
-    }
-
-    fn write_answer<S: Sink>(&mut self, answer: Answer, out: &mut S) -> Result<(), Stopped> {
-        match answer {
-            Answer::Done => self.page.text(b"done"),
-            Answer::Id(i) => {
-                self.page.text(b"id ");
-                self.page.number(u64::from(i));
-            }
-            Answer::No(number) => {
-                self.page.text(b"no ");
-                self.page.number(u64::from(number));
-            }
-        }
-        self.page.end_line(out)
-    }
-
-    fn write_tick<S: Sink>(
-        &mut self,
-        whose: Option<u32>,
-        runs: u32,
-        out: &mut S,
-    ) -> Result<(), Stopped> {
-        match whose {
-            Some(i) => {
-                self.page.number(u64::from(i));
-                if runs != i {
-                    self.page.text(b" runs ");
-                    self.page.number(u64::from(runs));
-                }
-            }
-            None => self.page.text(b"-"),
-        }
-        self.page.end_line(out)
-    }
-
-    fn write_had<S: Sink>(&mut self, out: &mut S) -> Result<(), Stopped> {
-        self.page.text(b"had");
-        for i in 0..64u32 {
-            if let Some(n) = self.theatre.had_by(i) {
-                self.page.text(b" ");
-                self.page.number(n);
-            }
-        }
-        self.page.end_line(out)
-    }
-
-    fn write_bad_line<S: Sink>(&mut self, out: &mut S) -> Result<(), Stopped> {
-        self.page.text(b"line ");
-        self.page.number(self.lines);
-        self.page.text(b"?");
-        self.page.end_line(out)
     }
 }

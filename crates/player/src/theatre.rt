@@ -1,4 +1,7 @@
 // A scheduler, and how many ticks each of its tasks has had since it was made.
+ghost use mathlib.Core.Path.{_≡_};
+ghost use Prim.Native.Nat.{_≤_};
+ghost use lib.ListN.{length};
 use sched::Answer;
 use sched::Call;
 use sched::Scheduler;
@@ -42,8 +45,16 @@ impl Theatre {
         (whose, runs)
     }
 
+    // How many ticks the tasks have had, by place.
+    pub fn counts(&self) -> &[Option<u64>]
+        ensures value { λ r. ⌜ now r ≡ now (self .entry) .had ⌝ }
+        ensures size { λ r. ⌜ length (now r) ≤ 64 ⌝ }
+    {
+        &self.had
+    }
+
     // How many ticks the task at this place has had, if there is one.
-    pub fn had_by(&self, i: u32) -> Option<u64> {
+    fn had_by(&self, i: u32) -> Option<u64> {
         if i >= 64 {
             return None;
         }
