@@ -90,7 +90,7 @@ impl Fair {
 
     // A place at which a fair task wants the tick, or none does.
     fn ask(&mut self, i: TaskId, asks: bool)
-        ensures { λ _. ⌜ ((base : ℕ) (h : House) → Comes h → asks ≡ fairWants (opened h) (i .index) → Begins base (i .index) (now (self .entry)) h → Begins base (suc (i .index)) (now (self .exit)) h) ⌝ }
+        ensures { λ _. ⌜ ((base : ℕ) (h : House) → Comes h → asks ≡ fairWants (opened h) (i .index) → Begins base (i .index) (now (self .entry)) h → Begins base (i .index + 1) (now (self .exit)) h) ⌝ }
     {
         if asks {
             self.join(i);
@@ -100,7 +100,7 @@ impl Fair {
     }
 
     fn join(&mut self, i: TaskId)
-        ensures { λ _. ⌜ ((base : ℕ) (h : House) → Comes h → fairWants (opened h) (i .index) ≡ true → Begins base (i .index) (now (self .entry)) h → Begins base (suc (i .index)) (now (self .exit)) h) ⌝ }
+        ensures { λ _. ⌜ ((base : ℕ) (h : House) → Comes h → fairWants (opened h) (i .index) ≡ true → Begins base (i .index) (now (self .entry)) h → Begins base (i .index + 1) (now (self .exit)) h) ⌝ }
     {
         let position = self.joined(i);
         if self.is_nearer(position) {

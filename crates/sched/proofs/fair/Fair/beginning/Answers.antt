@@ -5,7 +5,7 @@ use native.Mathlib.Omega.{arith}
 use Rattle.virtual_time.specs.Positions.{madeFar, madeRest}
 use Rattle.sched.specs.House.{weightOf}
 use Rattle.sched.specs.Stores.{kindOf, taskPlace, Stands}
-use Rattle.sched.proofs.Standing.{stands-made}
+use Rattle.sched.proofs.positions.Standing.{stands-made}
 use Rattle.sched.proofs.fair.Fair.beginning.Needs as need
 
 pub returns-in-Reserved : need.returns-in-Reserved

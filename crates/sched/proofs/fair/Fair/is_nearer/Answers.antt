@@ -4,7 +4,7 @@ use mathlib.Core.Bool.{true}
 use Rattle.std.specs.Options.{Cases as BySome}
 use Rattle.std.specs.declared.option.Option.the-variants.{Some, None}
 use Rattle.sched.specs.House.{opened, nearer}
-use Rattle.sched.proofs.Beginning.{compared}
+use Rattle.sched.proofs.positions.Beginning.{compared}
 use Rattle.sched.proofs.fair.Fair.is_nearer.Needs as need
 
 pub returns-in-Some : need.returns-in-Some

@@ -11,7 +11,7 @@ use Rattle.sched.specs.declared.tasks.Slot.the-variants as slot
 use Rattle.sched.specs.House.{Place, opened, ticked, weightOf}
 use Rattle.sched.specs.Stores.{Reads, ownerOf, placeOf}
 use Rattle.sched.specs.Begun.{Passing}
-use Rattle.sched.proofs.Passed.{passing-still, still-none, still-light}
+use Rattle.sched.proofs.positions.Passing.{passing-still, still-none, still-light}
 use Rattle.sched.proofs.fair.Fair.pass.Needs as need
 use Rattle.sched.proofs.fair.Fair.pass.Needs.{in-Some·then-is-fair, in-Some·else-is-fair, in-rest}
 

@@ -14,8 +14,8 @@ use Rattle.sched.specs.declared.fair.Fair.{Fair}
 use Rattle.sched.specs.House.{House, weightOf, fairWants, opened, nearer, leastFar, some', goesOn, wraps, freed, passed, ticked}
 use Rattle.sched.specs.Stores.{Stands, Exact, AllStand}
 use Rattle.sched.specs.Begun.{Begun, Passing}
-use Rattle.sched.proofs.Joining.{far-most}
-use Rattle.sched.proofs.Standing.{stand-set}
+use Rattle.sched.proofs.positions.Joining.{far-most}
+use Rattle.sched.proofs.positions.Standing.{stand-set}
 use Rattle.sched.proofs.model.Positions.{PositionsOf, fair-heavy, freed-weight, positions-opened}
 
 -- one part on, far from the cap
