@@ -1,19 +1,18 @@
 -- A tick begins place by place: what is kept of fair tasks below k is as the tick begins with it, from k on as the last left it.
 use mathlib.Core.Path.{_≡_, refl, sym, ap, subst, _∙_}
-use mathlib.Core.Bool.{Bool, true, false, cond, _&&_, not, false≢true, true≢false}
+use mathlib.Core.Bool.{Bool, true, false, _&&_, not, true≢false}
 use mathlib.Core.List.{List}
 use mathlib.Core.Logic.{_⊎_, inl, inr, ⊎-elim}
-use Prim.Native.Nat.{ℕ, suc, _+_, _<_, _≤_, zero-le}
+use Prim.Native.Nat.{ℕ, _+_, _<_, _≤_, zero-le}
 use native.Mathlib.Nat.{le-refl}
 use native.Mathlib.Omega.{arith}
-use lib.Dec.{eqb, ltb}
-use lib.ListN.{length, getD, set}
+use lib.Dec.{ltb}
+use lib.ListN.{getD, set}
 use Rattle.std.specs.Options.{Cases as BySome}
 use Rattle.std.specs.declared.option.Option.{Option}
 use Rattle.std.specs.declared.option.Option.the-variants.{Some, None}
-use Rattle.std.proofs.shelf.Lists.{length-set, getD-set-same, getD-set-other, getD-past}
-use Rattle.std.proofs.shelf.Tests.{cases-eq, cases-lt, cases-bool, lt-ltb, le-ltb, and-from, and-left, and-right, not-from-true, not-from-false}
-use Rattle.std.proofs.shelf.Ways.{tells}
+use Rattle.std.proofs.shelf.Lists.{getD-set-same, getD-set-other, getD-past}
+use Rattle.std.proofs.shelf.Tests.{cases-eq, cases-lt, cases-bool, le-ltb, and-from, and-left, and-right, not-from-true, not-from-false}
 use Rattle.quantities.specs.declared.ids.TaskId.{TaskId}
 use Rattle.quantities.specs.declared.promises.Weight.{Weight}
 use Rattle.virtual_time.specs.declared.position.Position.{Position}
@@ -22,8 +21,8 @@ use Rattle.virtual_time.proofs.Order.{behind-is-transitive, behind-is-irreflexi
 use Rattle.sched.specs.declared.fair.Fair.{Fair}
 use Rattle.sched.specs.declared.tasks.Slot.{Slot}
 use Rattle.sched.specs.declared.tasks.Slot.the-variants as slot
-use Rattle.sched.specs.House.{House, lessFar, weightOf, wants, fairWants, windowed, joins, joined, opened, nearer, leastFar, some', first', moves, ticked}
-use Rattle.sched.specs.Stores.{Reads, placeOf, Stands, Exact, AllStand, Fairly, FairlyOf}
+use Rattle.sched.specs.House.{House, lessFar, weightOf, wants, fairWants, windowed, joins, opened, nearer, leastFar, some', first', moves, ticked}
+use Rattle.sched.specs.Stores.{Reads, placeOf, Stands, Exact, FairlyOf}
 use Rattle.sched.specs.Begun.{Wanting, upTo, LeastBelow, Candidate, StandsAt, Begins, Begun}
 use Rattle.sched.proofs.Upto.{upto-below, upto-from, upto-set}
 use Rattle.sched.proofs.Bounded.{some-from, none-from, first-unique}

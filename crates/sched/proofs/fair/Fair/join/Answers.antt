@@ -1,12 +1,12 @@
 -- The position is exact, and the least far so far is still known.
-use mathlib.Core.Path.{_≡_, sym, subst}
+use mathlib.Core.Path.{sym, subst}
 use mathlib.Core.Bool.{true}
 use Prim.Native.Nat.{_+_}
 use lib.ListN.{set}
 use Rattle.std.specs.declared.option.Option.the-variants.{Some}
 use Rattle.sched.specs.declared.fair.Fair.{Fair}
 use Rattle.sched.specs.House.{opened}
-use Rattle.sched.specs.Begun.{Begins, Candidate}
+use Rattle.sched.specs.Begun.{Begins}
 use Rattle.sched.proofs.positions.Beginning.{begins-joined, candidate-nearer, candidate-stays}
 use Rattle.sched.proofs.fair.Fair.join.Needs as need
 use Rattle.sched.proofs.fair.Fair.join.Needs.{then-is-nearer, else-is-nearer}

@@ -1,5 +1,5 @@
 -- A task that comes back lands on the mark, or stands where it stood.
-use mathlib.Core.Path.{_≡_, sym, _∙_}
+use mathlib.Core.Path.{sym, _∙_}
 use mathlib.Core.Logic.{inl, inr}
 use Rattle.sched.proofs.positions.Beginning.{brought, not-brought}
 use Rattle.sched.proofs.model.Positions.{positions-come}
