@@ -1,11 +1,15 @@
 pub mod Arrays
+pub mod Beginning
 pub mod Bounded
-pub mod Choosing
 pub mod Changes
+pub mod Choosing
 pub mod Demand
 pub mod Fractions
+pub mod Joining
 pub mod Keep
 pub mod Lives
+pub mod Lowering
+pub mod Passed
 pub mod Passing
 pub mod Promises
 pub mod Puts
