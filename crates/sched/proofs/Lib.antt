@@ -1,22 +1,17 @@
 pub mod Arrays
-pub mod Beginning
 pub mod Bounded
 pub mod Changes
 pub mod Choosing
 pub mod Demand
 pub mod Fractions
-pub mod Joining
 pub mod Keep
 pub mod Lives
-pub mod Lowering
-pub mod Passed
 pub mod Passing
 pub mod Promises
 pub mod Puts
 pub mod RankTurns
 pub mod Seeing
 pub mod Soonest
-pub mod Standing
 pub mod Sums
 pub mod Tests
 pub mod Told
@@ -25,3 +20,4 @@ pub mod Upto
 pub mod Waiting
 pub mod Walks
 pub mod model
+pub mod positions

@@ -12,6 +12,7 @@ use Rattle.std.specs.declared.option.Option.the-variants.{Some, None}
 use Rattle.quantities.specs.declared.ids.TaskId.{TaskId}
 use Rattle.queues.specs.Rings as queue
 use Rattle.virtual_time.specs.declared.position.Position.{Position}
+use Rattle.virtual_time.specs.Positions.{madeFar, madeRest}
 use Rattle.windows.specs.declared.Window as code-window
 use Rattle.windows.specs.declared.Window.the-variants as window-is
 use Rattle.sched.specs.declared.Scheduler.{Scheduler}
@@ -91,7 +92,11 @@ pub record Stands (base w far rest : ℕ) (p : Position) : Type 0 where
   pub weight : p .weight .value ≡ w
   pub near : Near base far rest (p .whole) (p .rest)
 
--- the same, of which no part is lost: the mark, and whoever wants a tick
+-- what is kept for a task of weight w that is made while this is kept for the mark: one part beyond it
+abbrev pub StandsBeyond : (base w : ℕ) (mark p : Position) → Type 0
+StandsBeyond base w mark p = Stands base w (base + madeFar (mark .whole) (mark .rest) (mark .weight .value) w) (madeRest (mark .rest) (mark .weight .value) w) p
+
+-- what is kept where no part may be lost: of the mark, and of whoever wants a tick
 pub record Exact (base w far rest : ℕ) (p : Position) : Type 0 where
   pub weight : p .weight .value ≡ w
   pub whole : far ≡ base + p .whole

@@ -3,10 +3,9 @@ ghost use mathlib.Core.Path.{_≡_};
 ghost use mathlib.Core.Bool.{true, false};
 ghost use Prim.Native.Nat.{ℕ, suc, _+_, _<_};
 ghost use Rattle.std.specs.Options.{Cases as BySome};
-ghost use Rattle.virtual_time.specs.Positions.{madeFar, madeRest};
 ghost use Rattle.sched.specs.House.{House, some', empty, weightOf, fairWants, opened, nearer, leastFar, ticked};
 ghost use Rattle.sched.specs.Promise.{Comes};
-ghost use Rattle.sched.specs.Stores.{Reads, placeOf, taskPlace, ownerOf, Stands, FairlyOf, madeAt};
+ghost use Rattle.sched.specs.Stores.{Reads, placeOf, taskPlace, ownerOf, StandsBeyond, FairlyOf, madeAt};
 ghost use Rattle.sched.specs.Begun.{Wanting, StandsAt, Begins, Begun, LeastHas, Passing};
 ghost use Rattle.sched.specs.declared.tasks.Slot.the-variants as slot;
 use crate::class::Class;
@@ -79,7 +78,7 @@ impl Fair {
 
     // A new fair task begins one part beyond the mark.
     fn beginning(&self, promise: Promise) -> Position
-        ensures { λ r. ⌜ ((base w : ℕ) → weightOf (taskPlace promise) ≡ w → 0 < w → now (self .entry) .mark .whole < 1024 → Stands base w (base + madeFar (now (self .entry) .mark .whole) (now (self .entry) .mark .rest) (now (self .entry) .mark .weight .value) w) (madeRest (now (self .entry) .mark .rest) (now (self .entry) .mark .weight .value) w) r) ⌝ }
+        ensures { λ r. ⌜ ((base w : ℕ) → weightOf (taskPlace promise) ≡ w → 0 < w → now (self .entry) .mark .whole < 1024 → StandsBeyond base w (now (self .entry) .mark) r) ⌝ }
     {
         match promise {
             Promise::Reserved(_) => Position::start(Weight::one()),
@@ -88,9 +87,9 @@ impl Fair {
         }
     }
 
-    // A place at which a fair task wants the tick, or none does.
+    // One place, at which a fair task wants the tick or none does.
     fn ask(&mut self, i: TaskId, asks: bool)
-        ensures { λ _. ⌜ ((base : ℕ) (h : House) → Comes h → asks ≡ fairWants (opened h) (i .index) → Begins base (i .index) (now (self .entry)) h → Begins base (suc (i .index)) (now (self .exit)) h) ⌝ }
+        ensures { λ _. ⌜ ((base : ℕ) (h : House) → Comes h → asks ≡ fairWants (opened h) (i .index) → Begins base (i .index) (now (self .entry)) h → Begins base (i .index + 1) (now (self .exit)) h) ⌝ }
     {
         if asks {
             self.join(i);
@@ -99,8 +98,9 @@ impl Fair {
         }
     }
 
+    // A fair task wants the tick.
     fn join(&mut self, i: TaskId)
-        ensures { λ _. ⌜ ((base : ℕ) (h : House) → Comes h → fairWants (opened h) (i .index) ≡ true → Begins base (i .index) (now (self .entry)) h → Begins base (suc (i .index)) (now (self .exit)) h) ⌝ }
+        ensures { λ _. ⌜ ((base : ℕ) (h : House) → Comes h → fairWants (opened h) (i .index) ≡ true → Begins base (i .index) (now (self .entry)) h → Begins base (i .index + 1) (now (self .exit)) h) ⌝ }
     {
         let position = self.joined(i);
         if self.is_nearer(position) {
@@ -131,6 +131,7 @@ impl Fair {
         }
     }
 
+    // The mark moves up to the least far that wants, and never back.
     fn raise_mark(&mut self)
         ensures { λ _. ⌜ ((base : ℕ) (h : House) → Comes h → Begins base 64 (now (self .entry)) h → Begun (now (self .exit)) h) ⌝ }
     {
@@ -142,6 +143,7 @@ impl Fair {
         }
     }
 
+    // The tick was a fair task's: one part on.
     fn go_on(&mut self, i: TaskId)
         ensures { λ _. ⌜ ((h : House) → Comes h → leastFar (opened h) (i .index) ≡ true → Begun (now (self .entry)) h → Passing (now (self .exit)) (ticked (opened h) (suc (i .index)))) ⌝ }
     {

@@ -1,6 +1,6 @@
 -- A place at which a fair task wants is joined, any other is passed over.
-use mathlib.Core.Path.{_≡_, sym, subst, _∙_}
-use Rattle.sched.proofs.Beginning.{begins-over}
+use mathlib.Core.Path.{sym, _∙_}
+use Rattle.sched.proofs.positions.Beginning.{begins-over}
 use Rattle.sched.proofs.fair.Fair.ask.Needs as need
 
 pub returns-then-asks : need.returns-then-asks

@@ -1,5 +1,5 @@
 -- The least far wants, so its position is exact, and one part on it still is.
-use Rattle.sched.proofs.Passed.{passing-step}
+use Rattle.sched.proofs.positions.Passing.{passing-step}
 use Rattle.sched.proofs.model.Positions.{positions-come}
 use Rattle.sched.proofs.fair.Fair.go_on.Needs as need
 

@@ -1,10 +1,9 @@
 -- Both positions are exact, so they compare as the rules compare them; with no other yet, anyone is the nearest.
-use mathlib.Core.Path.{_≡_, sym, subst, _∙_, refl}
+use mathlib.Core.Path.{_≡_, sym, subst, _∙_}
 use mathlib.Core.Bool.{true}
 use Rattle.std.specs.Options.{Cases as BySome}
-use Rattle.std.specs.declared.option.Option.the-variants.{Some, None}
 use Rattle.sched.specs.House.{opened, nearer}
-use Rattle.sched.proofs.Beginning.{compared}
+use Rattle.sched.proofs.positions.Beginning.{compared}
 use Rattle.sched.proofs.fair.Fair.is_nearer.Needs as need
 
 pub returns-in-Some : need.returns-in-Some

@@ -1,7 +1,7 @@
 -- A task that comes back lands on the mark, or stands where it stood.
-use mathlib.Core.Path.{_≡_, sym, _∙_}
+use mathlib.Core.Path.{sym, _∙_}
 use mathlib.Core.Logic.{inl, inr}
-use Rattle.sched.proofs.Beginning.{brought, not-brought}
+use Rattle.sched.proofs.positions.Beginning.{brought, not-brought}
 use Rattle.sched.proofs.model.Positions.{positions-come}
 use Rattle.sched.proofs.fair.Fair.joined.Needs as need
 use Rattle.sched.proofs.fair.Fair.joined.Needs.{else-not-self-index·by·then-not-self-index·else-is-behind, else-not-self-index·by·else-not-self-index}

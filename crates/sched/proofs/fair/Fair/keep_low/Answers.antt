@@ -4,7 +4,7 @@ use mathlib.Core.Bool.{Bool, false}
 use Prim.Native.Nat.{_+_}
 use native.Mathlib.Omega.{arith}
 use Rattle.sched.specs.Stores.{Exact, Reads}
-use Rattle.sched.proofs.Lowering.{Lowers, lowers-none, lowers-more, lowers-all, mark-lowered}
+use Rattle.sched.proofs.positions.Lowering.{Lowers, lowers-none, lowers-more, lowers-all, mark-lowered}
 use Rattle.sched.proofs.fair.Fair.keep_low.Needs as need
 
 pub loop-k-holds : need.loop-k-holds

@@ -3,7 +3,7 @@ use mathlib.Core.Path.{_≡_}
 use Prim.Native.Nat.{ℕ}
 use Rattle.sched.specs.House.{Place}
 use Rattle.sched.specs.Stores.{AllStand}
-use Rattle.sched.proofs.Lowering.{Lowers}
+use Rattle.sched.proofs.positions.Lowering.{Lowers}
 use Rattle.sched.proofs.fair.Fair.keep_low.Given as given
 
 abbrev pub Inv-loop-k : given.InvT-loop-k

@@ -1,6 +1,6 @@
 -- The one position and the one flag that are written are the new task's.
 use Rattle.sched.specs.Stores.{taskPlace}
-use Rattle.sched.proofs.Standing.{fairly-made}
+use Rattle.sched.proofs.positions.Standing.{fairly-made}
 use Rattle.sched.proofs.fair.Fair.made.Needs as need
 
 pub returns : need.returns

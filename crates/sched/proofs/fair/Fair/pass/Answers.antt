@@ -2,7 +2,7 @@
 use mathlib.Core.Path.{_≡_, sym, subst, _∙_, ap}
 use mathlib.Core.Bool.{Bool, true, false}
 use mathlib.Core.List.{List}
-use Prim.Native.Nat.{ℕ, suc, _<_}
+use Prim.Native.Nat.{ℕ, suc}
 use lib.Dec.{ltb}
 use lib.ListN.{getD}
 use Rattle.std.proofs.shelf.Tests.{ltb-true}
@@ -11,7 +11,7 @@ use Rattle.sched.specs.declared.tasks.Slot.the-variants as slot
 use Rattle.sched.specs.House.{Place, opened, ticked, weightOf}
 use Rattle.sched.specs.Stores.{Reads, ownerOf, placeOf}
 use Rattle.sched.specs.Begun.{Passing}
-use Rattle.sched.proofs.Passed.{passing-still, still-none, still-light}
+use Rattle.sched.proofs.positions.Passing.{passing-still, still-none, still-light}
 use Rattle.sched.proofs.fair.Fair.pass.Needs as need
 use Rattle.sched.proofs.fair.Fair.pass.Needs.{in-Some·then-is-fair, in-Some·else-is-fair, in-rest}
 

@@ -1,7 +1,7 @@
 -- The mark is raised to the least far, or that isn't beyond it, or nobody wants.
-use mathlib.Core.Path.{_≡_, sym}
+use mathlib.Core.Path.{sym}
 use lib.ListN.{getD}
-use Rattle.sched.proofs.Beginning.{begun, mark-raised, mark-stays, mark-alone}
+use Rattle.sched.proofs.positions.Beginning.{begun, mark-raised, mark-stays, mark-alone}
 use Rattle.sched.proofs.model.Positions.{positions-come}
 use Rattle.sched.proofs.fair.Fair.raise_mark.Needs as need
 

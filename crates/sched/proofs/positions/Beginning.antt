@@ -1,19 +1,18 @@
 -- A tick begins place by place: what is kept of fair tasks below k is as the tick begins with it, from k on as the last left it.
 use mathlib.Core.Path.{_≡_, refl, sym, ap, subst, _∙_}
-use mathlib.Core.Bool.{Bool, true, false, cond, _&&_, not, false≢true, true≢false}
+use mathlib.Core.Bool.{Bool, true, false, _&&_, not, true≢false}
 use mathlib.Core.List.{List}
 use mathlib.Core.Logic.{_⊎_, inl, inr, ⊎-elim}
-use Prim.Native.Nat.{ℕ, suc, _+_, _<_, _≤_, zero-le}
+use Prim.Native.Nat.{ℕ, _+_, _<_, _≤_, zero-le}
 use native.Mathlib.Nat.{le-refl}
 use native.Mathlib.Omega.{arith}
-use lib.Dec.{eqb, ltb}
-use lib.ListN.{length, getD, set}
+use lib.Dec.{ltb}
+use lib.ListN.{getD, set}
 use Rattle.std.specs.Options.{Cases as BySome}
 use Rattle.std.specs.declared.option.Option.{Option}
 use Rattle.std.specs.declared.option.Option.the-variants.{Some, None}
-use Rattle.std.proofs.shelf.Lists.{length-set, getD-set-same, getD-set-other, getD-past}
-use Rattle.std.proofs.shelf.Tests.{cases-eq, cases-lt, cases-bool, lt-ltb, le-ltb, and-from, and-left, and-right, not-from-true, not-from-false}
-use Rattle.std.proofs.shelf.Ways.{tells}
+use Rattle.std.proofs.shelf.Lists.{getD-set-same, getD-set-other, getD-past}
+use Rattle.std.proofs.shelf.Tests.{cases-eq, cases-lt, cases-bool, le-ltb, and-from, and-left, and-right, not-from-true, not-from-false}
 use Rattle.quantities.specs.declared.ids.TaskId.{TaskId}
 use Rattle.quantities.specs.declared.promises.Weight.{Weight}
 use Rattle.virtual_time.specs.declared.position.Position.{Position}
@@ -22,31 +21,25 @@ use Rattle.virtual_time.proofs.Order.{behind-is-transitive, behind-is-irreflexi
 use Rattle.sched.specs.declared.fair.Fair.{Fair}
 use Rattle.sched.specs.declared.tasks.Slot.{Slot}
 use Rattle.sched.specs.declared.tasks.Slot.the-variants as slot
-use Rattle.sched.specs.House.{House, lessFar, weightOf, wants, fairWants, windowed, joins, joined, opened, nearer, leastFar, some', first', moves, ticked}
-use Rattle.sched.specs.Stores.{Reads, placeOf, Stands, Exact, AllStand, Fairly, FairlyOf}
+use Rattle.sched.specs.House.{House, lessFar, weightOf, wants, fairWants, windowed, joins, opened, nearer, leastFar, some', first', moves, ticked}
+use Rattle.sched.specs.Stores.{Reads, placeOf, Stands, Exact, FairlyOf}
 use Rattle.sched.specs.Begun.{Wanting, upTo, LeastBelow, Candidate, StandsAt, Begins, Begun}
+use Rattle.sched.proofs.Upto.{upto-below, upto-from, upto-set}
 use Rattle.sched.proofs.Bounded.{some-from, none-from, first-unique}
-use Rattle.sched.proofs.Joining.{exact-less, joined-behind, joined-stays}
-use Rattle.sched.proofs.Standing.{stand-set}
+use Rattle.sched.proofs.positions.Joining.{exact-less, joined-behind, joined-stays}
+use Rattle.sched.proofs.positions.Standing.{stand-set}
 use Rattle.sched.proofs.model.Positions.{PositionsOf, fair-heavy, wants-joined}
 use Rattle.sched.proofs.model.Quotas.{runner-opened}
 
--- BELOW k, AND FROM k ON
-module _ {Y : Type 0} (f g : ℕ → Y) where
-  pub up-to-below : (k i : ℕ) → i < k → upTo k f g i ≡ f i
-  up-to-below k i l = rw (lt-ltb i k l) refl
-
-  pub up-to-from : (k i : ℕ) → k ≤ i → upTo k f g i ≡ g i
-  up-to-from k i l = rw (le-ltb i k l) refl
-
-  pub up-to-other : (k i : ℕ) → (i ≡ k → ⊥) → upTo (suc k) f g i ≡ upTo k f g i
-  up-to-other k i n =
-      ⊎-elim (λ l. up-to-below (suc k) i (omega arith) ∙ sym (up-to-below k i l)) (λ l. up-to-from (suc k) i (omega arith) ∙ sym (up-to-from k i l)) (cases-lt i k)
+-- a further place changes no other
+up-to-other : {Y : Type 0} (f g : ℕ → Y) (k i : ℕ) → (i ≡ k → ⊥) → upTo (k + 1) f g i ≡ upTo k f g i
+up-to-other f g k i n =
+    ⊎-elim (λ l. upto-below f g (k + 1) i (omega arith) ∙ sym (upto-below f g k i l)) (λ l. upto-from f g (k + 1) i (omega arith) ∙ sym (upto-from f g k i l)) (cases-lt i k)
 
 -- THE LEAST FAR so far. A house in which a tick has begun is any, as far as these go.
 module _ (h : House) where
   -- one more place, at which nobody fair wants
-  pub candidate-over : (k : ℕ) (least : Option TaskId) → fairWants h k ≡ false → Candidate h k least → Candidate h (suc k) least
+  pub candidate-over : (k : ℕ) (least : Option TaskId) → fairWants h k ≡ false → Candidate h k least → Candidate h (k + 1) least
   candidate-over k None no' none = λ j l. ⊎-elim (λ e. subst (λ x. fairWants h x ≡ false) (sym e) no') (λ n. none j (omega arith)) (cases-eq j k)
   candidate-over k (Some i) no' at =
       record {
@@ -57,7 +50,7 @@ module _ (h : House) where
       }
 
   -- one that wants and isn't nearer
-  pub candidate-stays : (k : ℕ) (least : Option TaskId) (r : Bool) → BySome least (r ≡ true) (λ i. r ≡ nearer h k (i .index)) → r ≡ false → Candidate h k least → Candidate h (suc k) least
+  pub candidate-stays : (k : ℕ) (least : Option TaskId) (r : Bool) → BySome least (r ≡ true) (λ i. r ≡ nearer h k (i .index)) → r ≡ false → Candidate h k least → Candidate h (k + 1) least
   candidate-stays k None r e far none = absurd (true≢false (sym e ∙ far))
   candidate-stays k (Some i) r e far at =
       record {
@@ -68,7 +61,7 @@ module _ (h : House) where
       }
 
   -- one that wants and is nearer
-  pub candidate-nearer : (i : TaskId) (least : Option TaskId) (r : Bool) → fairWants h (i .index) ≡ true → BySome least (r ≡ true) (λ j. r ≡ nearer h (i .index) (j .index)) → r ≡ true → Candidate h (i .index) least → Candidate h (suc (i .index)) (Some i)
+  pub candidate-nearer : (i : TaskId) (least : Option TaskId) (r : Bool) → fairWants h (i .index) ≡ true → BySome least (r ≡ true) (λ j. r ≡ nearer h (i .index) (j .index)) → r ≡ true → Candidate h (i .index) least → Candidate h (i .index + 1) (Some i)
   candidate-nearer i None r wants e near none =
       record {
         below = omega arith;
@@ -141,40 +134,32 @@ joins-resting h i e = rw (sym (wants-joined (windowed h) i) ∙ e) refl
 module _ (base : ℕ) (h : House) (f : Fair) (k : ℕ) (lk : k < 64) (at : Begins base k f h) where
   pub stood : (d : Position) → 0 < weightOf (h .place k) → Stands base (weightOf (h .place k)) (h .far k) (h .rest k) (getD (f .positions) k d)
   stood d heavy =
-      subst (λ x. Stands base (weightOf (h .place k)) x (h .rest k) (getD (f .positions) k d)) (up-to-from (opened h .far) (h .far) k k (le-refl k))
-      (subst (λ x. Stands base (weightOf (h .place k)) (upTo k (opened h .far) (h .far) k) x (getD (f .positions) k d)) (up-to-from (opened h .rest) (h .rest) k k (le-refl k)) (at .all .each k d lk heavy))
+      subst (λ x. Stands base (weightOf (h .place k)) x (h .rest k) (getD (f .positions) k d)) (upto-from (opened h .far) (h .far) k k (le-refl k))
+      (subst (λ x. Stands base (weightOf (h .place k)) (upTo k (opened h .far) (h .far) k) x (getD (f .positions) k d)) (upto-from (opened h .rest) (h .rest) k k (le-refl k)) (at .all .each k d lk heavy))
 
   pub stood-wanted : getD (f .wanted) k false ≡ h .wanted k
-  stood-wanted = at .flags .at k ∙ up-to-from (fairWants (opened h)) (h .wanted) k k (le-refl k)
+  stood-wanted = at .flags .at k ∙ upto-from (fairWants (opened h)) (h .wanted) k k (le-refl k)
 
   -- the flag at k is written
-  begins-flags : (b : Bool) → b ≡ fairWants (opened h) k → Reads (λ (x : Bool). x) false (set (f .wanted) k b) (upTo (suc k) (fairWants (opened h)) (h .wanted))
-  begins-flags b e = record { len = length-set (f .wanted) k b ∙ at .flags .len; at = λ j. ⊎-elim (λ same. here j same) (λ n. else j n) (cases-eq j k) }
-    where
-      here : (j : ℕ) → j ≡ k → getD (set (f .wanted) k b) j false ≡ upTo (suc k) (fairWants (opened h)) (h .wanted) j
-      here j same =
-          ap (λ x. getD (set (f .wanted) k b) x false) same ∙ getD-set-same (f .wanted) k b false (omega (arith, at .flags .len)) ∙ e ∙ ap (λ x. fairWants (opened h) x) (sym same)
-          ∙ sym (up-to-below (fairWants (opened h)) (h .wanted) (suc k) j (omega arith))
-
-      else : (j : ℕ) → (j ≡ k → ⊥) → getD (set (f .wanted) k b) j false ≡ upTo (suc k) (fairWants (opened h)) (h .wanted) j
-      else j n = getD-set-other (f .wanted) k j b false n ∙ at .flags .at j ∙ sym (up-to-other (fairWants (opened h)) (h .wanted) k j n)
+  begins-flags : (b : Bool) → b ≡ fairWants (opened h) k → Reads (λ (x : Bool). x) false (set (f .wanted) k b) (upTo (k + 1) (fairWants (opened h)) (h .wanted))
+  begins-flags b e = upto-set (fairWants (opened h)) (h .wanted) (λ (x : Bool). x) false (f .wanted) k k b refl lk e (at .flags)
 
   -- the other places are as they were
   begins-other : (j : ℕ) (d : Position) → j < 64 → (j ≡ k → ⊥) → 0 < weightOf (h .place j) →
-      Stands base (weightOf (h .place j)) (upTo (suc k) (opened h .far) (h .far) j) (upTo (suc k) (opened h .rest) (h .rest) j) (getD (f .positions) j d)
+      Stands base (weightOf (h .place j)) (upTo (k + 1) (opened h .far) (h .far) j) (upTo (k + 1) (opened h .rest) (h .rest) j) (getD (f .positions) j d)
   begins-other j d l n heavy =
-      subst (λ x. Stands base (weightOf (h .place j)) x (upTo (suc k) (opened h .rest) (h .rest) j) (getD (f .positions) j d)) (sym (up-to-other (opened h .far) (h .far) k j n))
+      subst (λ x. Stands base (weightOf (h .place j)) x (upTo (k + 1) (opened h .rest) (h .rest) j) (getD (f .positions) j d)) (sym (up-to-other (opened h .far) (h .far) k j n))
       (subst (λ x. Stands base (weightOf (h .place j)) (upTo k (opened h .far) (h .far) j) x (getD (f .positions) j d)) (sym (up-to-other (opened h .rest) (h .rest) k j n)) (at .all .each j d l heavy))
 
   -- the place k, with what stands there
   begins-here : (p : Position) → Stands base (weightOf (h .place k)) (opened h .far k) (opened h .rest k) p →
-      Stands base (weightOf (h .place k)) (upTo (suc k) (opened h .far) (h .far) k) (upTo (suc k) (opened h .rest) (h .rest) k) p
+      Stands base (weightOf (h .place k)) (upTo (k + 1) (opened h .far) (h .far) k) (upTo (k + 1) (opened h .rest) (h .rest) k) p
   begins-here p there =
-      subst (λ x. Stands base (weightOf (h .place k)) x (upTo (suc k) (opened h .rest) (h .rest) k) p) (sym (up-to-below (opened h .far) (h .far) (suc k) k (omega arith)))
-      (subst (λ x. Stands base (weightOf (h .place k)) (opened h .far k) x p) (sym (up-to-below (opened h .rest) (h .rest) (suc k) k (omega arith))) there)
+      subst (λ x. Stands base (weightOf (h .place k)) x (upTo (k + 1) (opened h .rest) (h .rest) k) p) (sym (upto-below (opened h .far) (h .far) (k + 1) k (omega arith)))
+      (subst (λ x. Stands base (weightOf (h .place k)) (opened h .far k) x p) (sym (upto-below (opened h .rest) (h .rest) (k + 1) k (omega arith))) there)
 
   -- nobody fair wants at k
-  pub begins-over : fairWants (opened h) k ≡ false → Begins base (suc k) (record { positions = f .positions; wanted = set (f .wanted) k false; mark = f .mark; least = f .least }) h
+  pub begins-over : fairWants (opened h) k ≡ false → Begins base (k + 1) (record { positions = f .positions; wanted = set (f .wanted) k false; mark = f .mark; least = f .least }) h
   begins-over no' =
       record {
         all = record { len = at .all .len; each = λ j d l heavy. ⊎-elim (λ same. here j d same heavy) (λ n. begins-other j d l n heavy) (cases-eq j k) };
@@ -189,17 +174,17 @@ module _ (base : ℕ) (h : House) (f : Fair) (k : ℕ) (lk : k < 64) (at : Begin
       stays d heavy = rw (joins-resting h k no') (stood d heavy)
 
       here : (j : ℕ) (d : Position) → j ≡ k → 0 < weightOf (h .place j) →
-          Stands base (weightOf (h .place j)) (upTo (suc k) (opened h .far) (h .far) j) (upTo (suc k) (opened h .rest) (h .rest) j) (getD (f .positions) j d)
+          Stands base (weightOf (h .place j)) (upTo (k + 1) (opened h .far) (h .far) j) (upTo (k + 1) (opened h .rest) (h .rest) j) (getD (f .positions) j d)
       here j d same heavy =
-          subst (λ x. Stands base (weightOf (h .place x)) (upTo (suc k) (opened h .far) (h .far) x) (upTo (suc k) (opened h .rest) (h .rest) x) (getD (f .positions) x d)) (sym same)
+          subst (λ x. Stands base (weightOf (h .place x)) (upTo (k + 1) (opened h .far) (h .far) x) (upTo (k + 1) (opened h .rest) (h .rest) x) (getD (f .positions) x d)) (sym same)
           (begins-here (getD (f .positions) k d) (stays d (subst (λ x. 0 < weightOf (h .place x)) same heavy)))
 
   -- the task at k wants, and begins the tick at p
-  pub begins-joined : (p : Position) (least : Option TaskId) → fairWants (opened h) k ≡ true → StandsAt base k h p → Candidate (opened h) (suc k) least →
-      Begins base (suc k) (record { positions = set (f .positions) k p; wanted = set (f .wanted) k true; mark = f .mark; least = least }) h
+  pub begins-joined : (p : Position) (least : Option TaskId) → fairWants (opened h) k ≡ true → StandsAt base k h p → Candidate (opened h) (k + 1) least →
+      Begins base (k + 1) (record { positions = set (f .positions) k p; wanted = set (f .wanted) k true; mark = f .mark; least = least }) h
   begins-joined p least wants there candidate =
       record {
-        all = stand-set base (f .positions) (h .place) (upTo (suc k) (opened h .far) (h .far)) (upTo (suc k) (opened h .rest) (h .rest)) k p lk (at .all .len) (λ heavy. begins-here p (record { weight = there .weight; near = inl (there .whole, there .part) })) begins-other;
+        all = stand-set base (f .positions) (h .place) (upTo (k + 1) (opened h .far) (h .far)) (upTo (k + 1) (opened h .rest) (h .rest)) k p lk (at .all .len) (λ heavy. begins-here p (record { weight = there .weight; near = inl (there .whole, there .part) })) begins-other;
         exact = λ j d l lj w. ⊎-elim (λ same. here j d same) (λ n. subst (λ q. StandsAt base j h q) (sym (getD-set-other (f .positions) k j p d n)) (at .exact j d l (omega arith) w)) (cases-eq j k);
         mark = at .mark;
         flags = begins-flags true (sym wants);
@@ -218,7 +203,7 @@ begins-first {h} f fairly =
       all = record { len = fairly .all .len; each = λ i d l heavy. rw (le-ltb i 0 zero-le) (fairly .all .each i d l heavy) };
       exact = λ i d l li w. absurd (omega arith);
       mark = fairly .mark;
-      flags = record { len = fairly .flags .len; at = λ i. fairly .flags .at i ∙ sym (up-to-from (fairWants (opened h)) (h .wanted) 0 i zero-le) };
+      flags = record { len = fairly .flags .len; at = λ i. fairly .flags .at i ∙ sym (upto-from (fairWants (opened h)) (h .wanted) 0 i zero-le) };
       low = fairly .low;
       least = λ j l. absurd (omega arith);
     }
@@ -274,15 +259,15 @@ module _ (base : ℕ) (h : House) (f : Fair) (at : Begins base 64 f h) where
     where
       each : (i : ℕ) (d : Position) → i < 64 → 0 < weightOf (h .place i) → Stands base (weightOf (h .place i)) (opened h .far i) (opened h .rest i) (getD (f .positions) i d)
       each i d l heavy =
-          subst (λ x. Stands base (weightOf (h .place i)) x (opened h .rest i) (getD (f .positions) i d)) (up-to-below (opened h .far) (h .far) 64 i l)
-          (subst (λ x. Stands base (weightOf (h .place i)) (upTo 64 (opened h .far) (h .far) i) x (getD (f .positions) i d)) (up-to-below (opened h .rest) (h .rest) 64 i l) (at .all .each i d l heavy))
+          subst (λ x. Stands base (weightOf (h .place i)) x (opened h .rest i) (getD (f .positions) i d)) (upto-below (opened h .far) (h .far) 64 i l)
+          (subst (λ x. Stands base (weightOf (h .place i)) (upTo 64 (opened h .far) (h .far) i) x (getD (f .positions) i d)) (upto-below (opened h .rest) (h .rest) 64 i l) (at .all .each i d l heavy))
 
       nobody : (i : ℕ) → 64 ≤ i → fairWants (opened h) i ≡ false
       nobody i l = ⊎-elim (λ w. let within = positions .within i (fair-heavy (opened h) i w) in absurd (omega arith)) (λ n. n) (cases-bool (fairWants (opened h) i))
 
       flag : (i : ℕ) → getD (f .wanted) i false ≡ fairWants (opened h) i
       flag i =
-          ⊎-elim (λ l. at .flags .at i ∙ up-to-below (fairWants (opened h)) (h .wanted) 64 i l) (λ l. getD-past (f .wanted) i false (omega (arith, at .flags .len)) ∙ sym (nobody i l)) (cases-lt i 64)
+          ⊎-elim (λ l. at .flags .at i ∙ upto-below (fairWants (opened h)) (h .wanted) 64 i l) (λ l. getD-past (f .wanted) i false (omega (arith, at .flags .len)) ∙ sym (nobody i l)) (cases-lt i 64)
 
 -- the one whose turn it is, compared with the least far so far
 pub compared : (base : ℕ) (h : House) (f : Fair) (i : ℕ) → Begins base i f h → (p : Position) → StandsAt base i h p → (j : TaskId) (k : ℕ) (d : Position) → f .least ≡ Some j → k ≡ j .index →

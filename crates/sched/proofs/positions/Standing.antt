@@ -1,21 +1,21 @@
 -- Positions kept less a base: what a new scheduler keeps, and what is kept once a task is made or a place has changed.
 use mathlib.Core.Path.{_≡_, refl, sym, ap, subst, _∙_}
-use mathlib.Core.Bool.{Bool, true, false, cond}
+use mathlib.Core.Bool.{Bool, false, cond}
 use mathlib.Core.List.{List}
-use mathlib.Core.Logic.{_⊎_, inl, inr, ⊎-elim}
+use mathlib.Core.Logic.{_⊎_, inl, ⊎-elim}
 use Prim.Native.Nat.{ℕ, _+_, _-_, _*_, _/_, _%_, _<_, _≤_}
 use native.Mathlib.Nat.{add-assoc, div-le-self}
 use native.Mathlib.Omega.{arith}
-use lib.Dec.{eqb, ltb}
+use lib.Dec.{ltb}
 use lib.ListN.{length, getD, set, replicate}
 use Rattle.std.proofs.shelf.Lists.{length-set, length-replicate, getD-set-same, getD-set-other}
-use Rattle.std.proofs.shelf.Tests.{cases-eq, eq-eqb, ne-eqb, lt-ltb}
+use Rattle.std.proofs.shelf.Tests.{cases-eq, lt-ltb}
 use Rattle.std.specs.declared.option.Option.the-variants.{None}
 use Rattle.virtual_time.specs.declared.position.Position.{Position}
 use Rattle.virtual_time.specs.Positions.{capped, upRest, madeFar, madeRest}
 use Rattle.sched.specs.declared.fair.Fair.{Fair}
-use Rattle.sched.specs.House.{House, Place, Nobody, empty, put, weightOf}
-use Rattle.sched.specs.Stores.{Near, Stands, Exact, AllStand, Fairly, FairlyOf}
+use Rattle.sched.specs.House.{Place, empty, put, weightOf}
+use Rattle.sched.specs.Stores.{Stands, StandsBeyond, AllStand, Fairly, FairlyOf}
 use Rattle.sched.proofs.Arrays.{reads-replicate, reads-set}
 use Rattle.sched.proofs.Fractions.{ceiling-fits}
 use Rattle.sched.proofs.Puts.{put-at, put-else}
@@ -52,7 +52,7 @@ stand-set base positions place far rest i p li len here else =
 -- A task of weight w that is made stands one part beyond the mark, which is low: nothing comes round.
 pub stands-made : (base w : ℕ) (mark p : Position) → 0 < w → w ≤ 1024 → mark .whole < 1024 → p .weight .value ≡ w →
     p .whole ≡ capped (madeFar (mark .whole) (mark .rest) (mark .weight .value) w) → p .rest ≡ madeRest (mark .rest) (mark .weight .value) w →
-    Stands base w (base + madeFar (mark .whole) (mark .rest) (mark .weight .value) w) (madeRest (mark .rest) (mark .weight .value) w) p
+    StandsBeyond base w mark p
 stands-made base w mark p pw lw low weight whole rest =
     let up : ℕ = upRest (mark .rest) (mark .weight .value) w in
     let fits : up ≤ w = ceiling-fits (mark .rest) w (mark .weight .value) (mark .proper) in
@@ -62,8 +62,7 @@ stands-made base w mark p pw lw low weight whole rest =
 
 -- a task is made at i, and begins at p
 pub fairly-made : (f : Fair) (place : ℕ → Place) (far rest : ℕ → ℕ) (m s o : ℕ) (wanted : ℕ → Bool) (i : ℕ) (x : Place) (p : Position) → i < 64 → Fairly f place far rest m s o wanted →
-    ((base w : ℕ) → weightOf x ≡ w → 0 < w → f .mark .whole < 1024 →
-    Stands base w (base + madeFar (f .mark .whole) (f .mark .rest) (f .mark .weight .value) w) (madeRest (f .mark .rest) (f .mark .weight .value) w) p) →
+    ((base w : ℕ) → weightOf x ≡ w → 0 < w → f .mark .whole < 1024 → StandsBeyond base w (f .mark) p) →
     Fairly (record { positions = set (f .positions) i p; wanted = set (f .wanted) i false; mark = f .mark; least = f .least }) (put i x place)
     (put i (cond (ltb 0 (weightOf (put i x place i))) (m + ((s * weightOf (put i x place i) + (o - 1)) / o + 1) / weightOf (put i x place i)) 0) far)
     (put i (cond (ltb 0 (weightOf (put i x place i))) (((s * weightOf (put i x place i) + (o - 1)) / o + 1) % weightOf (put i x place i)) 0) rest) m s o (put i false wanted)

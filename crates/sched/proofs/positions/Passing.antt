@@ -6,16 +6,16 @@ use Prim.Native.Nat.{ℕ, suc, _+_, _<_, _≤_, min}
 use native.Mathlib.Omega.{arith}
 use lib.Dec.{eqb, ltb}
 use lib.ListN.{getD, set}
-use Rattle.std.proofs.shelf.Tests.{cases-eq, and-parts, and-left, and-right, eq-eqb, ne-eqb, le-ltb, lt-ltb}
+use Rattle.std.proofs.shelf.Tests.{cases-eq, and-parts, and-left, and-right, eq-eqb, ne-eqb, lt-ltb}
 use Rattle.quantities.specs.declared.ids.TaskId.{TaskId}
 use Rattle.virtual_time.specs.declared.position.Position.{Position}
 use Rattle.virtual_time.specs.Positions.{capped, tickedFar, tickedRest}
 use Rattle.sched.specs.declared.fair.Fair.{Fair}
-use Rattle.sched.specs.House.{House, weightOf, fairWants, opened, nearer, leastFar, some', goesOn, wraps, freed, passed, ticked}
+use Rattle.sched.specs.House.{House, weightOf, fairWants, opened, nearer, leastFar, some', goesOn, passed, ticked}
 use Rattle.sched.specs.Stores.{Stands, Exact, AllStand}
 use Rattle.sched.specs.Begun.{Begun, Passing}
-use Rattle.sched.proofs.Joining.{far-most}
-use Rattle.sched.proofs.Standing.{stand-set}
+use Rattle.sched.proofs.positions.Joining.{far-most}
+use Rattle.sched.proofs.positions.Standing.{stand-set}
 use Rattle.sched.proofs.model.Positions.{PositionsOf, fair-heavy, freed-weight, positions-opened}
 
 -- one part on, far from the cap
