@@ -7,15 +7,17 @@ use native.Mathlib.Omega.{arith}
 use lib.Dec.{eqb, ltb}
 use lib.ListN.{getD}
 use Rattle.std.proofs.shelf.Tests.{and-left, and-cases, eq-eqb, ltb-false}
+use Rattle.sched.specs.declared.Scheduler.{Scheduler}
 use Rattle.sched.specs.declared.tasks.Tasks.{Tasks}
 use Rattle.sched.specs.declared.tasks.Slot.the-variants as slot
 use Rattle.sched.specs.declared.wants.Wants as code-wants
 use Rattle.sched.specs.declared.locks.Locks.{Locks}
 use Rattle.sched.specs.House.{House, isTask, wants, runner, opened}
 use Rattle.sched.specs.Promise.{Comes}
-use Rattle.sched.specs.Stores.{Reads, placeOf, placeAt}
+use Rattle.sched.specs.Stores.{Holds, Reads, placeOf, placeAt}
 use Rattle.sched.specs.Midtick.{SlotsOf, WantsOf, Seen}
 use Rattle.sched.proofs.Arrays.{reads-like}
+use Rattle.sched.proofs.Told.{holds-locked}
 use Rattle.sched.proofs.Upto.{reads-past}
 use Rattle.sched.proofs.model.Rings.{runner-is-free}
 use Rattle.sched.proofs.model.Ticks.{wants-opened}
@@ -48,3 +50,7 @@ module _ (h : House) where
   -- the same want when windows have opened
   pub wants-still : (w : code-wants.Wants) → WantsOf w h → WantsOf w (opened h)
   wants-still w = reads-like (λ (b : Bool). b) false (λ i. sym (wants-opened h i))
+
+-- what a scheduler keeps of tasks and locks
+pub holds-seen : (s : Scheduler) (h : House) → Holds s h → Seen (s .tasks) (s .locks) h
+holds-seen s h holds = record { slots = holds .stores .slots; awake = holds .stores .awake; locks = holds-locked s h holds }

@@ -4,6 +4,7 @@ use mathlib.Core.Bool.{Bool, true, false, cond, not, _&&_, _||_, true≢false, f
 use mathlib.Core.Logic.{_⊎_, inl, inr, ⊎-elim}
 use Prim.Native.Nat.{ℕ, suc, _+_, _<_, _≤_}
 use native.Mathlib.Omega.{arith}
+use borrow.Author.Count.{below-more}
 use lib.Dec.{ltb, T}
 use Rattle.std.proofs.shelf.Tests.{cases-eq, cases-bool, and-from, and-parts, and-left, lt-ltb, le-ltb, ltb-true, ltb-false, both-ways}
 use Rattle.std.specs.Options.{Cases as BySome}
@@ -73,26 +74,23 @@ unfolding isReserved
 past-due h k e = rw e refl
 
 module _ (h : House) (k : ℕ) where
-  below-more : (P : ℕ → Type 0) → ((j : ℕ) → j < k → P j) → P k → (j : ℕ) → j < k + 1 → P j
-  below-more P below here j l = ⊎-elim (λ e. rw e here) (λ ne. below j (omega arith)) (cases-eq j k)
-
   -- k isn't due
   pub best-skip : (best : Option TaskId) → due h k ≡ false → BestBelow k h best → BestBelow (k + 1) h best
-  best-skip None none b = below-more (λ j. due h j ≡ false) b none
+  best-skip None none b = below-more (λ j. due h j ≡ false) k b none
   best-skip (Some i) none b =
-      (b .0, below-more (λ j. due h j ≡ true → soonerThan (h .window j) (h .window (i .index)) ≡ false) (b .1) (λ d. absurd (both-ways (due h k) none d)))
+      (b .0, below-more (λ j. due h j ≡ true → soonerThan (h .window j) (h .window (i .index)) ≡ false) k (b .1) (λ d. absurd (both-ways (due h k) none d)))
 
   -- k isn't served before the best
   pub best-keep : (best : Option TaskId) (before : Bool) → before ≡ false → BySome best (before ≡ true) (λ j. before ≡ soonerThan (h .window k) (h .window (j .index))) → BestBelow k h best → BestBelow (k + 1) h best
   best-keep None before no' than b = absurd (both-ways before no' than)
   best-keep (Some i) before no' than b =
-      (b .0, below-more (λ j. due h j ≡ true → soonerThan (h .window j) (h .window (i .index)) ≡ false) (b .1) (λ d. sym than ∙ no'))
+      (b .0, below-more (λ j. due h j ≡ true → soonerThan (h .window j) (h .window (i .index)) ≡ false) k (b .1) (λ d. sym than ∙ no'))
 
   -- k is
   pub best-take : (best : Option TaskId) (before : Bool) (i : TaskId) → i .index ≡ k → due h k ≡ true → before ≡ true → BySome best (before ≡ true) (λ j. before ≡ soonerThan (h .window k) (h .window (j .index))) → BestBelow k h best →
       (due h (i .index) ≡ true) × ((j : ℕ) → j < k + 1 → due h j ≡ true → soonerThan (h .window j) (h .window (i .index)) ≡ false)
   best-take best before i e d goes than b =
-      rw e (d, below-more (λ j. due h j ≡ true → soonerThan (h .window j) (h .window k) ≡ false) (earlier best than b) (λ _. never-sooner (h .window k)))
+      rw e (d, below-more (λ j. due h j ≡ true → soonerThan (h .window j) (h .window k) ≡ false) k (earlier best than b) (λ _. never-sooner (h .window k)))
     where
       earlier : (best : Option TaskId) → BySome best (before ≡ true) (λ j. before ≡ soonerThan (h .window k) (h .window (j .index))) → BestBelow k h best → (j : ℕ) → j < k → due h j ≡ true → soonerThan (h .window j) (h .window k) ≡ false
       earlier None than b j l due-j = absurd (both-ways (due h j) (b j l) due-j)

@@ -99,10 +99,10 @@ impl Reserved {
         ensures awake { λ _. ⌜ now (tasks .exit) .awake ≡ now (tasks .entry) .awake ⌝ }
     {
         let window = self.window(i).pass(mine);
-        self.windows[i.index()] = window;
         if !window.is_open() {
             tasks.release(i);
         }
+        self.windows[i.index()] = window;
     }
 
     // It wants the tick and hasn't had its quota.

@@ -1,10 +1,10 @@
 use Rattle.sched.proofs.Choosing.{picked}
-use Rattle.sched.proofs.Told.{holds-locked}
+use Rattle.sched.proofs.Seeing.{holds-seen}
 use Rattle.sched.proofs.Scheduler.pick.Needs as need
 
 pub returns : need.returns
 returns c h holds =
-    let asks = c .now-wants .ensures h (record { slots = holds .stores .slots; awake = holds .stores .awake; locks = holds-locked (c .args .self .now) h holds }) in
+    let asks = c .now-wants .ensures h (holds-seen (c .args .self .now) h holds) in
     let begun = c .begin .ensures h holds asks in
     let chosen = c .choose-whose .ensures h begun asks in
     let stores = c .pass .ensures h begun chosen in
