@@ -5,7 +5,7 @@ use Prim.Native.Nat.{ℕ, _+_, _-_, _<_}
 use native.Mathlib.Omega.{arith}
 use denote.Ref.{now}
 use lib.Dec.{T}
-use lib.ListN.{length, take, set, length-set}
+use lib.ListN.{length, take, length-set}
 use Rattle.std.proofs.shelf.Lists.{take-more-set}
 use Rattle.sched.specs.declared.Next.{Next}
 use Rattle.sched.specs.declared.Next.the-variants.{Calls, Tick, Over}

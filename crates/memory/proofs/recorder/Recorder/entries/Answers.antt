@@ -1,11 +1,9 @@
 -- What was recorded is legal by its type.
 use mathlib.Core.Path.{_≡_, sym, ap, subst}
-use mathlib.Core.List.{List}
 use Prim.Native.Nat.{ℕ, _-_}
 use native.Mathlib.Omega.{arith}
 use lib.ListN.{take}
 use Rattle.sched.specs.House.{empty}
-use Rattle.memory.specs.declared.entry.Entry.{Entry}
 use Rattle.memory.specs.Run.{Run, outcome}
 use Rattle.memory.proofs.Runs.{legal-run}
 use Rattle.memory.proofs.recorder.Recorder.entries.Needs as need
