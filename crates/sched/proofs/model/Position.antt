@@ -26,14 +26,6 @@ less-far-false f r o g s p lr ls e =
     ⊎-elim (λ n. over (let apart : f ≡ g → ⊥ = eqb-false f g n in omega arith))
     (λ n. ⊎-elim over (λ l. le-by-rest g s p f r o (omega arith) (ltb-false (r * p) (s * o) n)) (cases-lt g f)) (and-cases (eqb f g) (ltb (r * p) (s * o)) (parts .1))
 
-pub less-far-since : (f r o g s p : ℕ) → r < o → s < p → (f * o + r) * p < (g * p + s) * o → lessFar f r o g s p ≡ true
-less-far-since f r o g s p lr ls l =
-    ⊎-elim (λ e. e) (λ e. absurd (omega (arith, less-far-false f r o g s p lr ls e))) (cases-bool (lessFar f r o g s p))
-
-pub less-far-unless : (f r o g s p : ℕ) → r < o → s < p → (g * p + s) * o ≤ (f * o + r) * p → lessFar f r o g s p ≡ false
-less-far-unless f r o g s p lr ls l =
-    ⊎-elim (λ e. absurd (omega (arith, less-far-true f r o g s p lr ls e))) (λ e. e) (cases-bool (lessFar f r o g s p))
-
 -- ONE TASK of weight w, f and r parts far, with the mark at m and s parts of o.
 pub record Position (w f r m s o : ℕ) (wanted : Bool) : Type 0 where
   pub proper : r < w
