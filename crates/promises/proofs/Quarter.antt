@@ -22,7 +22,7 @@ use Rattle.sched.proofs.Sums.{sum-le, sum-add, sum-times, sum-term}
 use Rattle.sched.proofs.model.CallWays.{Ways, call-ways}
 use Rattle.sched.proofs.model.Ticks.{wants-opened, run-have}
 use Rattle.sched.proofs.model.TakeWays.{Takes, as-due, as-fixed, as-fair, due-parts, least-parts, run-taken, reserved-takes}
-use Rattle.sched.proofs.model.Windows.{numbers, begun, formed-begun, windows-well-formed}
+use Rattle.sched.proofs.model.Windows.{numbers, begun, formed-begun, windows-formed}
 use Rattle.sched.proofs.model.Shares.{shares-fit}
 use Rattle.sched.proofs.model.Quotas.{share-period}
 use Rattle.promises.specs.Quarter.{fixedWants, fairs, Span, begins, called, ran, QuarterLeft}
@@ -174,20 +174,20 @@ module _ (h : House) (k : Comes h) where
 
   rests-most : rests (h .place) (h .window) ≤ 10080 * 7560
   unfolding rests
-  rests-most = most (λ i. restOf (h .place i) (h .window i)) (λ i. rest-most (windows-well-formed h k i))
+  rests-most = most (λ i. restOf (h .place i) (h .window i)) (λ i. rest-most (windows-formed h k i))
 
   coming-most : coming (h .place) (h .window) ≤ 10080 * 7560
   unfolding coming
-  coming-most = most (λ i. comes (h .place i) (h .window i)) (λ i. comes-most (windows-well-formed h k i))
+  coming-most = most (λ i. comes (h .place i) (h .window i)) (λ i. comes-most (windows-formed h k i))
 
   call-grows : (c : Call) → rests (calls c h .house .place) (calls c h .house .window) + coming (h .place) (h .window) ≤ rests (h .place) (h .window) + coming (calls c h .house .place) (calls c h .house .window)
   call-grows c =
-      let all = all-grow (h .place) (calls c h .house .place) (h .window) (calls c h .house .window) (λ _. 0) (λ _. 0) (call-ways h (AllGrow h) (grow-ways h (windows-well-formed h k)) c) in
+      let all = all-grow (h .place) (calls c h .house .place) (h .window) (calls c h .house .window) (λ _. 0) (λ _. 0) (call-ways h (AllGrow h) (grow-ways h (windows-formed h k)) c) in
       omega arith
 
   opened-grows : rests (h .place) (opened h .window) + coming (h .place) (h .window) ≤ rests (h .place) (h .window) + coming (h .place) (opened h .window)
   opened-grows =
-      let all = all-grow (h .place) (h .place) (h .window) (opened h .window) (λ _. 0) (λ _. 0) (λ i. grows-begun (windows-well-formed h k i) (wants h i)) in
+      let all = all-grow (h .place) (h .place) (h .window) (opened h .window) (λ _. 0) (λ _. 0) (λ i. grows-begun (windows-formed h k i) (wants h i)) in
       omega arith
 
 -- WHOSE TICK. A reserved task's that is due, or a fair one's.
@@ -226,7 +226,7 @@ module _ (h : House) (t : Option ℕ) (j : ℕ) (m : T (mayRun h t j)) (k : Come
   due-open i e =
       let both = and-parts (eqb (numberOf t) (suc i)) (isReserved (h .place i)) e in
       let d = due-parts (opened h) i (reserved-takes (opened h) i (run-taken h t j i m (eqb-true (numberOf t) (suc i) (both .0)) .1) (both .1)) in
-      (d .2, wants-open (windows-well-formed h k i) (wants h i) (sym (wants-opened h i) ∙ d .1) (both .1))
+      (d .2, wants-open (windows-formed h k i) (wants h i) (sym (wants-opened h i) ∙ d .1) (both .1))
 
   reserved : ℕ → ℕ
   reserved i = cond (eqb (numberOf t) (suc i) && isReserved (h .place i)) 10080 0
@@ -253,7 +253,7 @@ module _ (h : House) (t : Option ℕ) (j : ℕ) (m : T (mayRun h t j)) (k : Come
   tick-grows : rests (after h t .place) (after h t .window) + coming (h .place) (h .window) + sum 64 reserved ≤ rests (h .place) (h .window) + coming (after h t .place) (after h t .window) + 7560
   unfolding reserved
   tick-grows =
-      let all = all-grow (h .place) (after h t .place) (opened h .window) (after h t .window) reserved (λ i. shareOf (h .place i)) (λ i. grows-passed (formed-begun (windows-well-formed h k i) (wants h i)) (eqb (numberOf t) (suc i)) (due-open i)) in
+      let all = all-grow (h .place) (after h t .place) (opened h .window) (after h t .window) reserved (λ i. shareOf (h .place i)) (λ i. grows-passed (formed-begun (windows-formed h k i) (wants h i)) (eqb (numberOf t) (suc i)) (due-open i)) in
       let opens = opened-grows h k in
       let fit = shares-fit h k in
       omega arith

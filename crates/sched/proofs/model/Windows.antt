@@ -1,4 +1,4 @@
--- Windows are well formed in every house that can come about: calls and ticks keep them so.
+-- Windows are well formed in every house that can come about, since calls and ticks keep them so; and a reserved task has a tick only within its quota.
 use mathlib.Core.Path.{_≡_, refl}
 use mathlib.Core.Logic.{_⊎_, inl, inr}
 use mathlib.Core.Bool.{Bool, true, false, cond, _&&_, false≢true}
@@ -10,14 +10,14 @@ use Rattle.std.specs.declared.option.Option.{Option}
 use Rattle.sched.specs.declared.Kind.the-variants.{Reserved, Fixed, Fair}
 use Rattle.sched.specs.declared.Call.{Call}
 use Rattle.sched.specs.House.{House, Place, Nobody, A, Kept, Window, Shut, Out, good, isReserved, isFixed, isTask, weightOf, quotaOf, periodOf, gotOf, wants, opened, openWith, openKept, passed, freed, leaves, after, numberOf, calls}
-use Rattle.sched.specs.Promise.{begin, called, ran}
+use Rattle.sched.specs.Promise.{Comes, begin, called, ran}
 use Rattle.sched.specs.Windows.{Formed, vacant, closed, running, lingering, WindowsWellFormed}
 use Rattle.sched.specs.Policy.{mayHave}
-use Rattle.sched.proofs.Tests.{true-T, and-left-T, and-right-T}
+use Rattle.sched.proofs.Tests.{T-true, true-T, and-left-T, and-right-T}
 use Rattle.sched.proofs.Puts.{put-both, put-two}
 use Rattle.sched.proofs.model.CallWays.{Ways, call-ways}
 use Rattle.sched.proofs.model.Ticks.{run-have}
-use Rattle.sched.proofs.model.TakeWays.{Takes, as-due, as-fixed, as-fair, due-parts, turn-parts, least-parts, have-taken}
+use Rattle.sched.proofs.model.TakeWays.{Takes, as-due, as-fixed, as-fair, due-parts, turn-parts, least-parts, have-taken, run-taken, reserved-takes}
 
 -- the numbers of a reservation
 pub record Numbers (q p : ℕ) : Type 0 where
@@ -138,7 +138,14 @@ formed-ways h f =
 pub formed-call : (h : House) (c : Call) → ((i : ℕ) → Formed (h .place i) (h .window i)) → (i : ℕ) → Formed (calls c h .house .place i) (calls c h .house .window i)
 formed-call h c f = call-ways h AllFormed (formed-ways h f) c
 
+pub windows-formed : (h : House) → Comes h → (i : ℕ) → Formed (h .place i) (h .window i)
+windows-formed h begin i = vacant
+windows-formed h (called {h = was} c r) i = formed-call was c (windows-formed was r) i
+windows-formed h (ran {h = was} t j r m) i = formed-tick was t j (run-have was t j m) (windows-formed was r) i
+
 pub windows-well-formed : WindowsWellFormed
-windows-well-formed h begin i = vacant
-windows-well-formed h (called {h = was} c r) i = formed-call was c (windows-well-formed was r) i
-windows-well-formed h (ran {h = was} t j r m) i = formed-tick was t j (run-have was t j m) (windows-well-formed was r) i
+windows-well-formed =
+    record {
+      formed = windows-formed;
+      within = λ h t j i m e r. due-parts (opened h) i (reserved-takes (opened h) i (run-taken h t j i m e .1) (T-true _ r)) .2;
+    }
