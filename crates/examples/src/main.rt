@@ -15,6 +15,18 @@ fn main(rt: LibcRuntime) -> Result<(), AnyError> {
 }
 
 fn play_all(rt: &LibcRuntime) -> Result<(), AnyError> {
+    calls(rt)?;
+    ticks(rt)?;
+    example(
+        rt,
+        "lines that are no commands",
+        "malformed.script",
+        "malformed.expected",
+    )
+}
+
+// What is answered, and what is turned away.
+fn calls(rt: &LibcRuntime) -> Result<(), AnyError> {
     example(
         rt,
         "refusals of bad kinds",
@@ -38,7 +50,11 @@ fn play_all(rt: &LibcRuntime) -> Result<(), AnyError> {
         "a ring of two",
         "ring-of-two.script",
         "ring-of-two.expected",
-    )?;
+    )
+}
+
+// Whose the ticks are.
+fn ticks(rt: &LibcRuntime) -> Result<(), AnyError> {
     example(
         rt,
         "reserved beside fixed",
@@ -68,12 +84,6 @@ fn play_all(rt: &LibcRuntime) -> Result<(), AnyError> {
         "a share kept after its task ended",
         "kept-share.script",
         "kept-share.expected",
-    )?;
-    example(
-        rt,
-        "lines that are no commands",
-        "malformed.script",
-        "malformed.expected",
     )
 }
 

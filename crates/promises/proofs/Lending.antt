@@ -3,15 +3,19 @@ use mathlib.Core.Path.{_≡_, refl, sym, _∙_}
 use mathlib.Core.Bool.{Bool, true, false, cond, _&&_, true≢false, false≢true}
 use mathlib.Core.List.{[], _∷_, _++_}
 use mathlib.Core.Logic.{_⊎_, inl, inr}
-use Prim.Native.Nat.{ℕ, zero, suc, _+_, _-_, _*_, _<_}
+use Prim.Native.Nat.{ℕ, zero, suc, _+_, _-_, _*_, _<_, _≤_}
 use native.Mathlib.Omega.{arith}
 use lib.Dec.{eqb, ltb}
 use Rattle.std.proofs.shelf.Tests.{and-from, and-left, eq-eqb, ne-eqb, eqb-true, lt-ltb}
-use Rattle.sched.specs.House.{House, Place, Window, Nobody, A, Kept, Shut, Open, isTask, isFixed, weightOf, gotOf, without, runner, freed, passed, goesOn, wraps, ticked, opened, numberOf}
+use Rattle.std.specs.declared.option.Option.the-variants.{Some}
+use Rattle.sched.specs.House.{House, Window, Shut, Open, isTask, isFixed, weightOf, gotOf, without, runner, passed, goesOn, wraps, ticked, opened, numberOf}
+use Rattle.sched.specs.Windows.{endsOf}
 use Rattle.sched.proofs.Tests.{T-true, true-T, and-three}
 use Rattle.sched.proofs.model.Runner.{Standing, runner-self, runner-next}
 use Rattle.sched.proofs.model.Rings.{comes-stands, runner-is-free}
-use Rattle.sched.proofs.model.Ticks.{takes-wants, wants-opened, may-run}
+use Rattle.sched.proofs.model.Positions.{freed-weight}
+use Rattle.sched.proofs.model.Ticks.{wants-opened}
+use Rattle.sched.proofs.model.TakeWays.{run-taken, takes-wants}
 use Rattle.promises.specs.Lending.{LendsTo, itself, through, parts, CountsFor, CountsNot, Lends}
 
 lends-runner : (h : House) → Standing h → (n i : ℕ) → LendsTo h i (runner n h i)
@@ -25,20 +29,13 @@ lends-runner h s (suc n) i = go (lends-runner h s n) (h .waits i) refl
         let owned = s .waiter i m e .2 in
         rw (runner-next h n i m e) (through i m (h .owner m - 1) (runner n h (h .owner m - 1)) e (omega (arith, owned)) (ih (h .owner m - 1)))
 
--- a tick that passes over a window counts in it, or ends it
-passed-got : (mine : Bool) (w : Window) → (passed mine w ≡ Shut) ⊎ (gotOf (passed mine w) ≡ cond mine (gotOf w + 1) (gotOf w))
-unfolding passed gotOf
-passed-got mine Shut = inl refl
-passed-got mine (Open zero g b) = inl refl
-passed-got mine (Open (suc zero) g b) = inl refl
+-- a tick that passes over a window counts in it, or is its last
+passed-got : (mine : Bool) (w : Window) → ((endsOf w ≤ 1) × (passed mine w ≡ Shut)) ⊎ (gotOf (passed mine w) ≡ cond mine (gotOf w + 1) (gotOf w))
+unfolding passed gotOf endsOf
+passed-got mine Shut = inl (omega arith, refl)
+passed-got mine (Open zero g b) = inl (omega arith, refl)
+passed-got mine (Open (suc zero) g b) = inl (omega arith, refl)
 passed-got mine (Open (suc (suc e)) g b) = inr refl
-
-freed-weight : (w : Window) (p : Place) → weightOf (freed w p) ≡ weightOf p
-unfolding freed weightOf
-freed-weight Shut Nobody = refl
-freed-weight Shut (A k) = refl
-freed-weight Shut (Kept q p) = refl
-freed-weight (Open e g b) p = refl
 
 -- one part on: the rest rises by one, or the whole does and the rest starts again
 part-on : (goes full : Bool) (f r w : ℕ) → goes ≡ true → (full ≡ true → r + 1 ≡ w) → cond (goes && full) (f + 1) f * w + cond goes (cond full 0 (r + 1)) r ≡ f * w + r + 1
@@ -90,15 +87,14 @@ module _ (g : House) (i : ℕ) where
 pub lends : Lends
 unfolding numberOf
 lends h r i j ran =
-    let m = may-run h i j ran in
-    let w = takes-wants (opened h) i (m .0) in
-    let p = and-three (isTask (h .place i)) (h .awake (runner 64 h i)) (eqb (h .waits (runner 64 h i)) 0) (sym (wants-opened h i) ∙ w .1) in
-    let f = runner-is-free h r i (w .0) (p .0) in
+    let taken = run-taken h (Some i) j i ran refl in
+    let p = and-three (isTask (h .place i)) (h .awake (runner 64 h i)) (eqb (h .waits (runner 64 h i)) 0) (sym (wants-opened h i) ∙ takes-wants (opened h) i (taken .1)) in
+    let f = runner-is-free h r i (taken .0) (p .0) in
     record {
-      task = rw (m .1) (true-T _ (f .1));
-      awake = rw (m .1) (true-T _ (p .1));
-      free = rw (m .1) (f .0);
-      lends = rw (m .1) (lends-runner h (comes-stands r) 64 i);
+      task = rw (taken .2) (true-T _ (f .1));
+      awake = rw (taken .2) (true-T _ (p .1));
+      free = rw (taken .2) (f .0);
+      lends = rw (taken .2) (lends-runner h (comes-stands r) 64 i);
       counts = counts-for (opened h) i;
       others = counts-not (opened h) i;
       turn = turn-stays (opened h) i;

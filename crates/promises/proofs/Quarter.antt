@@ -1,6 +1,6 @@
 -- A quarter is left: what reserved tasks have had, and what open windows may still have, never grows faster than the shares,
 -- which are three quarters.
-use mathlib.Core.Path.{_≡_, refl, ap}
+use mathlib.Core.Path.{_≡_, refl, sym, ap, _∙_}
 use mathlib.Core.Logic.{inl, inr}
 use mathlib.Core.Bool.{Bool, true, false, cond, not, _&&_, false≢true}
 use Prim.Native.Nat.{ℕ, zero, suc, _+_, _-_, _*_, _/_, _%_, _<_, _≤_}
@@ -12,18 +12,19 @@ use Rattle.std.specs.declared.option.Option.{Option}
 use Rattle.sched.specs.declared.Kind.{Kind}
 use Rattle.sched.specs.declared.Kind.the-variants.{Reserved, Fixed, Fair}
 use Rattle.sched.specs.declared.Call.{Call}
-use Rattle.sched.specs.House.{House, Place, Nobody, A, Kept, Window, Shut, Open, Out, sum, some', good, isTask, isReserved, isFixed, weightOf, rankOf, rankWants, leastFar, fairWants, quotaOf, periodOf, shareOf, shareOfKind, gotOf, wants, due, mayRest, mayRun, opened, openWith, openKept, passed, freed, leaves, after, numberOf, calls, kept}
+use Rattle.sched.specs.House.{House, Place, Nobody, A, Kept, Window, Shut, Open, Out, sum, some', good, isTask, isReserved, isFixed, weightOf, rankOf, rankWants, fairWants, quotaOf, periodOf, shareOf, shareOfKind, gotOf, wants, due, mayRest, mayRun, opened, openWith, openKept, passed, freed, leaves, after, numberOf, calls}
 use Rattle.sched.specs.Promise.{Comes}
 use Rattle.sched.specs.Windows.{Formed, endsOf}
-use Rattle.sched.proofs.Tests.{T-true, true-T, and-left-T, and-right-T}
+use Rattle.sched.proofs.Tests.{true-T, and-right-T}
 use Rattle.sched.proofs.Puts.{put-both, put-two}
 use Rattle.sched.proofs.Bounded.{some-witness, some-from}
 use Rattle.sched.proofs.Sums.{sum-le, sum-add, sum-times, sum-term}
 use Rattle.sched.proofs.model.CallWays.{Ways, call-ways}
-use Rattle.sched.proofs.model.Windows.{numbers, begun, formed-begun, windows-well-formed, due-got, Taken, by-due, by-rank, by-fair, take-ways, take-below, take}
+use Rattle.sched.proofs.model.Ticks.{wants-opened, run-have}
+use Rattle.sched.proofs.model.TakeWays.{Takes, as-due, as-fixed, as-fair, due-parts, least-parts, run-taken, reserved-takes}
+use Rattle.sched.proofs.model.Windows.{numbers, begun, formed-begun, windows-formed}
 use Rattle.sched.proofs.model.Shares.{shares-fit}
-use Rattle.sched.proofs.model.Quotas.{share-period, runner-opened}
-use Rattle.sched.specs.Policy.{mayHave}
+use Rattle.sched.proofs.model.Quotas.{share-period}
 use Rattle.promises.specs.Quarter.{fixedWants, fairs, Span, begins, called, ran, QuarterLeft}
 
 -- what an open window may still have, in 10,080ths of a tick, and what its share comes to until it ends
@@ -173,56 +174,33 @@ module _ (h : House) (k : Comes h) where
 
   rests-most : rests (h .place) (h .window) ≤ 10080 * 7560
   unfolding rests
-  rests-most = most (λ i. restOf (h .place i) (h .window i)) (λ i. rest-most (windows-well-formed h k i))
+  rests-most = most (λ i. restOf (h .place i) (h .window i)) (λ i. rest-most (windows-formed h k i))
 
   coming-most : coming (h .place) (h .window) ≤ 10080 * 7560
   unfolding coming
-  coming-most = most (λ i. comes (h .place i) (h .window i)) (λ i. comes-most (windows-well-formed h k i))
+  coming-most = most (λ i. comes (h .place i) (h .window i)) (λ i. comes-most (windows-formed h k i))
 
   call-grows : (c : Call) → rests (calls c h .house .place) (calls c h .house .window) + coming (h .place) (h .window) ≤ rests (h .place) (h .window) + coming (calls c h .house .place) (calls c h .house .window)
   call-grows c =
-      let all = all-grow (h .place) (calls c h .house .place) (h .window) (calls c h .house .window) (λ _. 0) (λ _. 0) (call-ways h (AllGrow h) (grow-ways h (windows-well-formed h k)) c) in
+      let all = all-grow (h .place) (calls c h .house .place) (h .window) (calls c h .house .window) (λ _. 0) (λ _. 0) (call-ways h (AllGrow h) (grow-ways h (windows-formed h k)) c) in
       omega arith
 
   opened-grows : rests (h .place) (opened h .window) + coming (h .place) (h .window) ≤ rests (h .place) (h .window) + coming (h .place) (opened h .window)
   opened-grows =
-      let all = all-grow (h .place) (h .place) (h .window) (opened h .window) (λ _. 0) (λ _. 0) (λ i. grows-begun (windows-well-formed h k i) (wants h i)) in
+      let all = all-grow (h .place) (h .place) (h .window) (opened h .window) (λ _. 0) (λ _. 0) (λ i. grows-begun (windows-formed h k i) (wants h i)) in
       omega arith
 
 -- WHOSE TICK. A reserved task's that is due, or a fair one's.
-reserved-period : {p : Place} {w : Window} → Formed p w → isReserved p ≡ true → 4 ≤ periodOf p
-unfolding isReserved periodOf
-reserved-period Formed.vacant e = absurd (false≢true e)
-reserved-period (Formed.closed (Reserved q p) g) e = numbers q p g .longer
-reserved-period (Formed.closed (Fixed r) g) e = absurd (false≢true e)
-reserved-period (Formed.closed (Fair x) g) e = absurd (false≢true e)
-reserved-period (Formed.running q p e g b k _ _ _) t = numbers q p k .longer
-reserved-period (Formed.lingering q p e g b k _ _ _) t = absurd (false≢true t)
-
 -- a reserved task that wants has a window open
-wants-open : {p : Place} {w : Window} → Formed p w → (v : Bool) → T v → isReserved p ≡ true → 0 < endsOf (begun p w v)
+wants-open : {p : Place} {w : Window} → Formed p w → (v : Bool) → v ≡ true → isReserved p ≡ true → 0 < endsOf (begun p w v)
 unfolding isReserved openWith periodOf endsOf
 wants-open Formed.vacant v t e = absurd (false≢true e)
 wants-open (Formed.closed (Reserved q p) g) true t e = let n = numbers q p g in omega arith
-wants-open (Formed.closed (Reserved q p) g) false t e = absurd t
+wants-open (Formed.closed (Reserved q p) g) false t e = absurd (false≢true t)
 wants-open (Formed.closed (Fixed r) g) v t e = absurd (false≢true e)
 wants-open (Formed.closed (Fair x) g) v t e = absurd (false≢true e)
 wants-open (Formed.running q p e g b k l _ _) v t r = l
 wants-open (Formed.lingering q p e g b k _ _ _) v t r = absurd (false≢true r)
-
-module _ (h : House) (i : ℕ) where
-  due-reserved : T (due h i) → T (isReserved (h .place i))
-  due-reserved d =
-      let r = isReserved (h .place i) in
-      and-left-T r (wants h i) (and-left-T (r && wants h i) (ltb (gotOf (h .window i)) (quotaOf (h .place i))) d)
-
-  due-wants : T (due h i) → T (wants h i)
-  due-wants d =
-      let r = isReserved (h .place i) in
-      and-right-T r (wants h i) (and-left-T (r && wants h i) (ltb (gotOf (h .window i)) (quotaOf (h .place i))) d)
-
-  fair-weight : T (leastFar h i) → T (ltb 0 (weightOf (h .place i)))
-  fair-weight l = and-left-T (ltb 0 (weightOf (h .place i))) (wants h i) (and-left-T (fairWants h i) _ l)
 
 -- no fixed one wants, so none of any rank does
 no-ranks : (h : House) → T (not (some' 64 (fixedWants h))) → some' 16 (λ (r : ℕ). some' 64 (rankWants h r)) ≡ true → ⊥
@@ -244,18 +222,11 @@ rests-at : (r : ℕ) (rest x : Bool) → r ≡ 0 → T (cond (eqb r 0) rest x) �
 rests-at r rest x e = rw (eq-eqb r 0 e) (λ t. t)
 
 module _ (h : House) (t : Option ℕ) (j : ℕ) (m : T (mayRun h t j)) (k : Comes h) where
-  having : T (mayHave h t j)
-  having = and-left-T (mayHave h t j) (kept (opened h) (numberOf t)) m
-
   due-open : (i : ℕ) → (eqb (numberOf t) (suc i) && isReserved (h .place i)) ≡ true → (gotOf (opened h .window i) < quotaOf (h .place i)) × (0 < endsOf (opened h .window i))
   due-open i e =
       let both = and-parts (eqb (numberOf t) (suc i)) (isReserved (h .place i)) e in
-      go (both .1) (take-ways (opened h) i (take h t j having i (eqb-true (numberOf t) (suc i) (both .0))))
-    where
-      go : isReserved (h .place i) ≡ true → Taken (opened h) i → (gotOf (opened h .window i) < quotaOf (h .place i)) × (0 < endsOf (opened h .window i))
-      go r (by-due d) = (due-got (opened h) i d, wants-open (windows-well-formed h k i) (wants h i) (rw (runner-opened 64 h i) at (due-wants (opened h) i d)) r)
-      go r (by-rank s z) = let long = reserved-period (windows-well-formed h k i) r in absurd (omega arith)
-      go r (by-fair l z) = let long = reserved-period (windows-well-formed h k i) r in absurd (omega arith)
+      let d = due-parts (opened h) i (reserved-takes (opened h) i (run-taken h t j i m (eqb-true (numberOf t) (suc i) (both .0)) .1) (both .1)) in
+      (d .2, wants-open (windows-formed h k i) (wants h i) (sym (wants-opened h i) ∙ d .1) (both .1))
 
   reserved : ℕ → ℕ
   reserved i = cond (eqb (numberOf t) (suc i) && isReserved (h .place i)) 10080 0
@@ -264,25 +235,25 @@ module _ (h : House) (t : Option ℕ) (j : ℕ) (m : T (mayRun h t j)) (k : Come
   unfolding reserved
   whose f n =
       elim (cases-eq (numberOf t) 0) [
-        | inl z ↦ absurd (no-rest (opened h) f (rests-at (numberOf t) (mayRest (opened h)) _ z having))
-        | inr some ↦ let e : numberOf t ≡ suc (numberOf t - 1) = omega arith in let mine = take h t j having (numberOf t - 1) e in go (numberOf t - 1) refl e (take-below (opened h) (numberOf t - 1) mine) (take-ways (opened h) (numberOf t - 1) mine)
+        | inl z ↦ absurd (no-rest (opened h) f (rests-at (numberOf t) (mayRest (opened h)) _ z (run-have h t j m)))
+        | inr some ↦ let e : numberOf t ≡ suc (numberOf t - 1) = omega arith in let taken = run-taken h t j (numberOf t - 1) m e in go (numberOf t - 1) refl e (taken .0) (taken .1)
       ]
     where
-      go : (i : ℕ) → numberOf t - 1 ≡ i → numberOf t ≡ suc i → i < 64 → Taken (opened h) i → 10080 ≤ 10080 * fairs h t + sum 64 reserved
-      go i is e l (by-due d) =
-          let one : reserved i ≡ 10080 = cond-true (eqb (numberOf t) (suc i) && isReserved (h .place i)) 10080 0 (and-from (eqb (numberOf t) (suc i)) (isReserved (h .place i)) (eq-eqb (numberOf t) (suc i) e) (T-true (isReserved (h .place i)) (due-reserved (opened h) i d))) in
+      go : (i : ℕ) → numberOf t - 1 ≡ i → numberOf t ≡ suc i → i < 64 → Takes (opened h) i → 10080 ≤ 10080 * fairs h t + sum 64 reserved
+      go i is e l (as-due d) =
+          let one : reserved i ≡ 10080 = cond-true (eqb (numberOf t) (suc i) && isReserved (h .place i)) 10080 0 (and-from (eqb (numberOf t) (suc i)) (isReserved (h .place i)) (eq-eqb (numberOf t) (suc i) e) (due-parts (opened h) i d .0)) in
           let least = sum-term 64 i reserved l in
           omega arith
-      go i is e l (by-rank s z) = absurd (no-ranks (opened h) n s)
-      go i is e l (by-fair w z) =
-          let weighs : ltb 0 (weightOf (h .place (numberOf t - 1))) ≡ true = rw is (T-true (ltb 0 (weightOf (h .place i))) (fair-weight (opened h) i w)) in
+      go i is e l (as-fixed d s w) = absurd (no-ranks (opened h) n s)
+      go i is e l (as-fair d s w) =
+          let weighs : ltb 0 (weightOf (h .place (numberOf t - 1))) ≡ true = rw is (lt-ltb 0 (weightOf (h .place i)) (least-parts (opened h) i w .0)) in
           let one : fairs h t ≡ 1 = cond-true (ltb 0 (numberOf t) && ltb 0 (weightOf (h .place (numberOf t - 1)))) 1 0 (and-from (ltb 0 (numberOf t)) (ltb 0 (weightOf (h .place (numberOf t - 1)))) (lt-ltb 0 (numberOf t) (omega arith)) weighs) in
           omega arith
 
   tick-grows : rests (after h t .place) (after h t .window) + coming (h .place) (h .window) + sum 64 reserved ≤ rests (h .place) (h .window) + coming (after h t .place) (after h t .window) + 7560
   unfolding reserved
   tick-grows =
-      let all = all-grow (h .place) (after h t .place) (opened h .window) (after h t .window) reserved (λ i. shareOf (h .place i)) (λ i. grows-passed (formed-begun (windows-well-formed h k i) (wants h i)) (eqb (numberOf t) (suc i)) (due-open i)) in
+      let all = all-grow (h .place) (after h t .place) (opened h .window) (after h t .window) reserved (λ i. shareOf (h .place i)) (λ i. grows-passed (formed-begun (windows-formed h k i) (wants h i)) (eqb (numberOf t) (suc i)) (due-open i)) in
       let opens = opened-grows h k in
       let fit = shares-fit h k in
       omega arith

@@ -6,18 +6,19 @@ use mathlib.Core.Bool.{Bool, true, false, cond}
 use Prim.Native.Nat.{ℕ, zero, suc, _+_, _-_, _<_, _≤_}
 use native.Mathlib.Omega.{arith}
 use lib.Dec.{T, eqb}
-use Rattle.std.proofs.shelf.Tests.{cases-eq, cond-both, eqb-true}
+use Rattle.std.proofs.shelf.Tests.{cases-eq, both-ways}
 use Rattle.sched.specs.declared.Kind.{Kind}
 use Rattle.sched.specs.declared.Kind.the-variants.{Reserved}
 use Rattle.sched.specs.declared.Call.{Call}
-use Rattle.sched.specs.House.{House, Place, Nobody, A, Kept, Window, Shut, Open, Out, isTask, isReserved, quotaOf, periodOf, gotOf, wants, opened, openWith, passed, freed, leaves, numberOf, calls}
+use Rattle.sched.specs.House.{House, Place, Nobody, A, Window, Shut, Open, Out, isTask, isReserved, quotaOf, periodOf, gotOf, wants, opened, openWith, passed, freed, leaves, numberOf, calls}
 use Rattle.sched.specs.Windows.{Formed, endsOf}
 use Rattle.sched.specs.Quotas.{owedOf}
 use Rattle.sched.specs.Policy.{Follows}
 use Rattle.sched.proofs.Tests.{T-true}
 use Rattle.sched.proofs.Puts.{put-else, put-both}
 use Rattle.sched.proofs.model.CallWays.{Ways, call-ways}
-use Rattle.sched.proofs.model.Windows.{numbers, begun, Entitled, take, take-entitled}
+use Rattle.sched.proofs.model.Places.{leaves-none}
+use Rattle.sched.proofs.model.Windows.{numbers, begun, Entitled, have-entitled}
 use Rattle.sched.proofs.model.Quotas.{quotas-last, follows-quotas}
 use Rattle.promises.specs.Reserved.{Wanting, begins, called, ran, ReservedHas}
 
@@ -93,12 +94,6 @@ nobody-none : (p : Place) → p ≡ Nobody → T (isTask p) → ⊥
 unfolding isTask
 nobody-none p e = rw e (λ t. t)
 
-leaves-none : (w : Window) (p : Place) → T (isTask (leaves w p)) → ⊥
-unfolding isTask leaves
-leaves-none Shut p = λ t. t
-leaves-none (Open e g b) p =
-    cond-both (isReserved p) (Kept (quotaOf p) (periodOf p)) Nobody (λ x. T (isTask x) → ⊥) (λ _ t. t) (λ _ t. t)
-
 module _ (h : House) (i : ℕ) (t : T (isTask (h .place i))) where
   abbrev Stays : Out → Type 0
   Stays o = T (isTask (o .house .place i)) → (o .house .place i ≡ h .place i) × (o .house .window i ≡ h .window i)
@@ -112,7 +107,7 @@ module _ (h : House) (i : ℕ) (t : T (isTask (h .place i))) where
             (put-else n (A k) (h .place) i apart, put-else n Shut (h .window) i apart);
         end = λ j _ _ _ _.
             put-both j (leaves (h .window j) (h .place j)) (h .place) i (λ p. T (isTask p) → (p ≡ h .place i) × (h .window i ≡ h .window i))
-            (λ _ u. absurd (leaves-none (h .window j) (h .place j) u)) (λ _ _. (refl, refl));
+            (λ _ u. absurd (both-ways (isTask (leaves (h .window j) (h .place j))) (leaves-none (h .window j) (h .place j)) (T-true _ u))) (λ _ _. (refl, refl));
         wake = λ i _ _ _. (refl, refl);
         sleep = λ i _ _ _ _. (refl, refl);
         take = λ i m _ _ _ _ _ _ _. (refl, refl);
@@ -133,10 +128,10 @@ reserved-task : (p : Place) (k : Kind) → p ≡ A k → T (isTask p)
 unfolding isTask
 reserved-task p k e = rw e tt
 
-freed-task : (w : Window) (p : Place) (k : Kind) → p ≡ A k → freed w p ≡ A k
+task-stays : (w : Window) (p : Place) (k : Kind) → p ≡ A k → freed w p ≡ A k
 unfolding freed
-freed-task Shut p k e = rw e refl
-freed-task (Open d g b) p k e = e
+task-stays Shut p k e = rw e refl
+task-stays (Open d g b) p k e = e
 
 held : {i q p : ℕ} {h : House} {n a : ℕ} → i < 64 → Wanting i q p h n a → Held i q p h n a
 held l (begins f e w) = record { there = e; stage = fresh refl refl w }
@@ -148,9 +143,9 @@ held {i} {q} {p} l (ran {h = was} {n = n} {a = a} t j r m f v) =
     let b = held l r in
     let k = follows-quotas (wanting-follows r) in
     record {
-      there = freed-task (passed (eqb (numberOf t) (suc i)) (opened was .window i)) (was .place i) (Reserved q p) (b .there);
+      there = task-stays (passed (eqb (numberOf t) (suc i)) (opened was .window i)) (was .place i) (Reserved q p) (b .there);
       stage = stage-tick q p n a (eqb (numberOf t) (suc i)) (was .place i) (was .window i) (wants was i) (b .there) (T-true (wants was i) v) (k .formed i)
-          (λ e. take-entitled (opened was) i (take was t j m i (eqb-true (numberOf t) (suc i) e))) (quotas-last was i l k) (b .stage);
+          (have-entitled was t j m i) (quotas-last was i l k) (b .stage);
     }
 
 had-all : {q p n a : ℕ} {w : Window} → 0 < p → Stage q p n a w → n ≡ p → a ≡ q

@@ -8,13 +8,15 @@ use native.Mathlib.Omega.{arith}
 use lib.Dec.{eqb}
 use Rattle.std.proofs.shelf.Tests.{cond-both, cond-true, cond-false, cases-eq, cases-lt, and-from, eq-eqb, ne-eqb, eqb-true, eqb-false, both-ways}
 use Rattle.sched.specs.declared.Kind.{Kind}
-use Rattle.sched.specs.House.{House, Place, Nobody, A, Kept, Window, Shut, Open, empty, put, isTask, isFixed, isReserved, rankOf, leaves, quotaOf, periodOf, freed, passed, without, wants, rankWants, topRank, some', opened, after, numberOf}
+use Rattle.sched.specs.House.{House, Place, Nobody, A, Kept, Window, Shut, Open, empty, put, isTask, isFixed, rankOf, leaves, freed, passed, without, wants, rankWants, topRank, some', opened, after, numberOf}
 use Rattle.sched.proofs.Tests.{T-true}
 use Rattle.sched.proofs.Puts.{put-at, put-else, put-both}
 use Rattle.sched.proofs.Bounded.{some-from, first-least, first-below}
 use Rattle.sched.proofs.model.CallWays.{Ways, call-ways}
-use Rattle.sched.proofs.model.TakeWays.{run-taken, rank-wants-parts, fixed-takes}
-use Rattle.sched.proofs.model.Ticks.{wants-opened, in-turn as in-turn-may}
+use Rattle.sched.proofs.model.Places.{leaves-none, freed-task}
+use Rattle.sched.proofs.model.TakeWays.{run-taken, rank-wants-parts, turn-parts, fixed-takes}
+use Rattle.sched.proofs.model.Ticks.{wants-opened}
+use Rattle.sched.proofs.model.Turn.{fixed-task}
 use Rattle.promises.specs.InTurn.{Dated, begin, called, ran, dates, InTurn}
 use Rattle.promises.proofs.Orders.{Among, InOrder, among-push, push-among, among-without, without-among, order-push, order-without, order-same, first-earliest}
 
@@ -24,12 +26,6 @@ pub record Queued (place : ℕ → Place) (turn : List ℕ) (last : ℕ → ℕ)
   pub present : (k : ℕ) → isTask (place k) ≡ true → Among k turn
   pub past : (k : ℕ) → Among k turn → last k < n
   pub ordered : InOrder (λ k. isFixed (place k)) last turn
-
-fixed-task : (p : Place) → isFixed p ≡ true → isTask p ≡ true
-unfolding isFixed isTask
-fixed-task Nobody e = e
-fixed-task (A k) e = refl
-fixed-task (Kept q p) e = e
 
 queued-empty : Queued (empty .place) (empty .turn) (λ i. 0) 0
 unfolding isTask
@@ -119,17 +115,15 @@ module _ (place : ℕ → Place) (turn : List ℕ) (last : ℕ → ℕ) (n : ℕ
           (λ k e. (refl, cond-false (eqb r (suc k)) n (last k) (ne-eqb r (suc k) (λ s. e (omega arith)))))
           (λ k a. among-without k (r - 1) turn a) (λ k a e. without-among k (r - 1) turn a e) (order-without (λ k. isFixed (place k)) last (r - 1) turn (at .ordered))
 
-leaves-none : (w : Window) (p : Place) → isTask (leaves w p) ≡ false
-unfolding leaves isTask
-leaves-none Shut p = refl
-leaves-none (Open e g b) p = cond-both (isReserved p) (Kept (quotaOf p) (periodOf p)) Nobody (λ q. isTask q ≡ false) (λ _. refl) (λ _. refl)
+freed-fixed : (w : Window) (p : Place) → isFixed (freed w p) ≡ isFixed p
+unfolding freed isFixed
+freed-fixed Shut Nobody = refl
+freed-fixed Shut (A k) = refl
+freed-fixed Shut (Kept q p) = refl
+freed-fixed (Open e g b) p = refl
 
 freed-same : (w : Window) (p : Place) → (isTask (freed w p) ≡ isTask p) × (isFixed (freed w p) ≡ isFixed p)
-unfolding freed isTask isFixed
-freed-same Shut Nobody = (refl, refl)
-freed-same Shut (A k) = (refl, refl)
-freed-same Shut (Kept q p) = (refl, refl)
-freed-same (Open e g b) p = (refl, refl)
+freed-same w p = (freed-task w p, freed-fixed w p)
 
 queued-ways : (n : ℕ) (h : House) (last : ℕ → ℕ) → Queued (h .place) (h .turn) last n → Ways h (λ o. Queued (o .house .place) (o .house .turn) (dates (o .answer) n last) (suc n))
 unfolding dates
@@ -165,8 +159,7 @@ pub in-turn : InTurn
 in-turn n h last d t j m i k e fi fk wk apart =
     let at = queued-dated d in
     let taken = fixed-takes (opened h) i (run-taken h t j i m e .1) (T-true (isFixed (h .place i)) fi) in
-    let may = in-turn-may (rankWants (opened h) (topRank (opened h))) (h .turn) i (taken .1) in
-    let rank-i = rank-wants-parts (opened h) (topRank (opened h)) i may .1 in
+    let rank-i = turn-parts (opened h) i (taken .1) .1 in
     let fixed-k = T-true (isFixed (h .place k)) fk in
     let task-k = fixed-task (h .place k) fixed-k in
     let wants-k = wants-opened h k ∙ T-true (wants h k) wk in

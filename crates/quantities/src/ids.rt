@@ -3,9 +3,6 @@ ghost use mathlib.Core.Path.{_≡_};
 ghost use Prim.Native.Nat.{_<_, _≤_};
 ghost use Rattle.std.specs.Options.{Cases as BySome};
 
-// How many places for tasks there are, and how many locks.
-pub const COUNT: usize = 64;
-
 // The place of a task.
 #[derive(Clone, Copy)]
 pub struct TaskId {

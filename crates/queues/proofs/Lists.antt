@@ -1,7 +1,7 @@
 -- Who stands in a list, and how often, after one is taken out of it or put last.
 use mathlib.Core.Path.{_≡_, refl, sym, ap, _∙_}
 use mathlib.Core.Logic.{_⊎_, inl, inr}
-use mathlib.Core.List.{List, [], _∷_, _++_, append-assoc}
+use mathlib.Core.List.{List, [], _∷_, _++_}
 use Prim.Native.Nat.{ℕ, _+_, _≤_}
 use native.Mathlib.Omega.{arith}
 use Rattle.std.proofs.shelf.Tests.{cases-eq, eq-eqb, ne-eqb}
@@ -76,13 +76,3 @@ push-last i (x ∷ xs) = inr (push-last i xs)
 pub times-push : (i j : ℕ) (xs : List ℕ) → times j (xs ++ (i ∷ [])) ≡ times j xs + times j (i ∷ [])
 times-push i j [] = omega arith
 times-push i j (x ∷ xs) = omega (arith, times-push i j xs)
-
--- a list with i in it, cut at i: what `next` speaks of
-pub member-split : (i : ℕ) (xs : List ℕ) → Member i xs → (ys : List ℕ) × ((zs : List ℕ) × (xs ≡ ys ++ (i ∷ zs)))
-member-split i [] m = absurd m
-member-split i (x ∷ xs) (inl e) = ([], (xs, ap (λ k. k ∷ xs) (sym e)))
-member-split i (x ∷ xs) (inr m) = let s = member-split i xs m in (x ∷ s .0, (s .1 .0, ap (λ l. x ∷ l) (s .1 .1)))
-
--- cut one further on
-pub split-on : (xs ys : List ℕ) (i j : ℕ) (zs : List ℕ) → xs ≡ ys ++ (i ∷ (j ∷ zs)) → xs ≡ (ys ++ (i ∷ [])) ++ (j ∷ zs)
-split-on xs ys i j zs e = e ∙ sym (append-assoc ys (i ∷ []) (j ∷ zs))

@@ -1,5 +1,5 @@
 -- Arrays that stand for functions: what a write and a fresh array stand for.
-use mathlib.Core.Path.{_≡_, refl, sym, ap, _∙_, subst, fun-ext}
+use mathlib.Core.Path.{_≡_, sym, ap, _∙_, subst}
 use mathlib.Core.List.{List}
 use mathlib.Core.Logic.{inl, inr}
 use Prim.Native.Nat.{ℕ, _<_, _≤_}
@@ -12,10 +12,6 @@ use Rattle.sched.specs.Stores.{Reads}
 use Rattle.sched.proofs.Puts.{put-both}
 
 module _ {X Y : Type 0} (mean : X → Y) (none : X) where
-  -- an array stands for what is read from it
-  pub reads-self : (xs : List X) → length xs ≡ 64 → Reads mean none xs (λ i. mean (getD xs i none))
-  reads-self xs l = record { len = l; at = λ i. refl }
-
   -- what is read below 64 doesn't depend on the default
   pub reads-at : {xs : List X} {f : ℕ → Y} (i k : ℕ) (d : X) → k ≡ i → i < 64 → Reads mean none xs f → mean (getD xs k d) ≡ f i
   reads-at {xs} {f} i k d e l r =
@@ -58,10 +54,6 @@ module _ {X Y : Type 0} (mean : X → Y) (none : X) where
 
   pub reads-same : {xs ys : List X} {f : ℕ → Y} → ys ≡ xs → Reads mean none xs f → Reads mean none ys f
   reads-same {xs} {ys} {f} e r = subst (λ zs. Reads mean none zs f) (sym e) r
-
-  -- what stands in the array is what the function says
-  pub reads-function : {xs : List X} {f : ℕ → Y} → Reads mean none xs f → _≡_ {A = ℕ → Y} (λ i. mean (getD xs i none)) f
-  reads-function r = fun-ext (r .at)
 
   -- two functions that agree everywhere are one
   pub reads-like : {xs : List X} {f g : ℕ → Y} → ((i : ℕ) → f i ≡ g i) → Reads mean none xs f → Reads mean none xs g

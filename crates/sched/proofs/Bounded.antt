@@ -4,7 +4,7 @@ use mathlib.Core.Bool.{Bool, true, false, _||_, true≢false, false≢true}
 use mathlib.Core.Logic.{_⊎_, inl, inr, ⊎-elim}
 use Prim.Native.Nat.{ℕ, zero, suc, _<_, _≤_}
 use native.Mathlib.Omega.{arith}
-use Rattle.std.proofs.shelf.Tests.{cases-bool, cases-eq, cases-lt, or-cases, or-left, or-right, and-parts, and-from, cond-both}
+use Rattle.std.proofs.shelf.Tests.{cases-bool, cases-eq, cases-lt, or-cases, or-left, or-right, and-from, cond-both}
 use Rattle.sched.specs.House.{some', every, first}
 use Rattle.sched.proofs.Tests.{same-test}
 
@@ -35,13 +35,6 @@ module _ (f : ℕ → Bool) where
   pub none-from : (n : ℕ) → ((k : ℕ) → k < n → f k ≡ false) → some' n f ≡ false
   none-from n none =
       ⊎-elim (λ t. let w = some-witness n t in absurd (true≢false (sym (w .2) ∙ none (w .0) (w .1)))) (λ e. e) (cases-bool (some' n f))
-
-  pub every-at : (n k : ℕ) → every n f ≡ true → k < n → f k ≡ true
-  unfolding every
-  every-at zero k e h = absurd (omega arith)
-  every-at (suc n) k e h =
-      let p = and-parts (every n f) (f n) e in
-      below-suc (λ j. f j ≡ true) n k (λ j l. every-at n j (p .0) l) (p .1) h
 
   pub every-from : (n : ℕ) → ((k : ℕ) → k < n → f k ≡ true) → every n f ≡ true
   unfolding every

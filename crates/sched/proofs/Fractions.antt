@@ -9,14 +9,6 @@ use native.Mathlib.Omega.{arith}
 pub le-trans-frac : (x v y w z u : ℕ) → 0 < w → x * w ≤ y * v → y * u ≤ z * w → x * u ≤ z * v
 le-trans-frac x v y w z u pw h k = le-of-mul-le-mul-right {k = w} (omega (arith, mul-le-mul-right u h, mul-le-mul-right v k)) pw
 
--- x / v < y / w ≤ z / u
-pub lt-le-trans-frac : (x v y w z u : ℕ) → 0 < u → x * w < y * v → y * u ≤ z * w → x * u < z * v
-lt-le-trans-frac x v y w z u pu h k = lt-of-mul-lt-mul-left w (omega (arith, mul-le-mul-right u h, mul-le-mul-right v k))
-
--- x / v ≤ y / w < z / u
-pub le-lt-trans-frac : (x v y w z u : ℕ) → 0 < v → x * w ≤ y * v → y * u < z * w → x * u < z * v
-le-lt-trans-frac x v y w z u pv h k = lt-of-mul-lt-mul-left w (omega (arith, mul-le-mul-right u h, mul-le-mul-right v k))
-
 -- x / v < y / w + k / v and y / w ≤ z / u
 pub near-le-frac : (x v y w z u k : ℕ) → 0 < u → x * w < y * v + k * w → y * u ≤ z * w → x * u < z * v + k * u
 near-le-frac x v y w z u k pu h l = lt-of-mul-lt-mul-left w (omega (arith, mul-le-mul-right u h, mul-le-mul-right v l))

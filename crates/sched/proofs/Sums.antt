@@ -5,9 +5,8 @@ use mathlib.Core.Logic.{_⊎_, inl, inr}
 use Prim.Native.Nat.{ℕ, zero, suc, _+_, _*_, _≤_, _<_}
 use native.Mathlib.Numerals.{add-one}
 use native.Mathlib.Omega.{arith}
-use lib.Dec.{eqb}
-use Rattle.std.proofs.shelf.Tests.{cases-eq, cond-true, cond-false, eq-eqb, ne-eqb}
-use Rattle.sched.specs.House.{sum, put}
+use Rattle.std.proofs.shelf.Tests.{cases-eq}
+use Rattle.sched.specs.House.{sum}
 
 -- one more term, as a loop counts
 pub sum-more : (n : ℕ) (f : ℕ → ℕ) → sum (n + 1) f ≡ sum n f + f n
@@ -74,12 +73,6 @@ sum-but (suc n) k f g l h =
           let here = h n (omega arith) (λ same. d (sym same)) in
           omega arith
     ]
-
-pub sum-put : (n k y : ℕ) (f : ℕ → ℕ) → k < n → sum n (put k y f) + f k ≡ sum n f + y
-sum-put n k y f l =
-    let here : put k y f k ≡ y = cond-true (eqb k k) y (f k) (eq-eqb k k refl) in
-    let but = sum-but n k (put k y f) f l (λ i _ d. cond-false (eqb i k) y (f i) (ne-eqb i k d)) in
-    omega arith
 
 -- less somewhere and nowhere more is less
 pub sum-lt : (n k : ℕ) (f g : ℕ → ℕ) → k < n → f k < g k → ((i : ℕ) → i < n → f i ≤ g i) → sum n f < sum n g

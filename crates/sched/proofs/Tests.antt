@@ -1,7 +1,6 @@
--- A test as a fact, `T b`, and as an equation, `b ≡ true`: from each to the other, and through `not`, `&&` and `||`.
+-- A test as a fact, `T b`, and as an equation, `b ≡ true`: from each to the other, and through `&&`.
 use mathlib.Core.Path.{_≡_, refl, sym}
-use mathlib.Core.Bool.{Bool, true, false, not, _&&_, _||_, true≢false, false≢true}
-use mathlib.Core.Logic.{_⊎_, inl, inr}
+use mathlib.Core.Bool.{Bool, true, false, _&&_, false≢true}
 use lib.Dec.{T}
 
 pub T-true : (b : Bool) → T b → b ≡ true
@@ -11,14 +10,6 @@ T-true false t = absurd t
 pub true-T : (b : Bool) → b ≡ true → T b
 true-T true e = tt
 true-T false e = absurd (false≢true e)
-
-pub T-not-false : (b : Bool) → T (not b) → b ≡ false
-T-not-false true t = absurd t
-T-not-false false t = refl
-
-pub false-T-not : (b : Bool) → b ≡ false → T (not b)
-false-T-not true e = absurd (true≢false e)
-false-T-not false e = tt
 
 pub and-T : (a b : Bool) → T a → T b → T (a && b)
 and-T true b t u = u
@@ -31,18 +22,6 @@ and-left-T false b t = t
 pub and-right-T : (a b : Bool) → T (a && b) → T b
 and-right-T true b t = t
 and-right-T false b t = absurd t
-
-pub or-left-T : (a b : Bool) → T a → T (a || b)
-or-left-T true b t = tt
-or-left-T false b t = absurd t
-
-pub or-right-T : (a b : Bool) → T b → T (a || b)
-or-right-T true b t = tt
-or-right-T false b t = t
-
-pub or-cases-T : (a b : Bool) → T (a || b) → T a ⊎ T b
-or-cases-T true b t = inl tt
-or-cases-T false b t = inr t
 
 pub and-three : (a b c : Bool) → (a && b && c) ≡ true → (a ≡ true) × (b ≡ true) × (c ≡ true)
 and-three true true c e = (refl, refl, e)

@@ -1,6 +1,5 @@
 -- Who waits for a lock stands in its row: what the queues tell of waiting, in a house that can have come about.
 use mathlib.Core.Path.{_≡_, refl, sym, ap, _∙_, subst}
-use mathlib.Core.Logic.{inl, inr}
 use mathlib.Core.Bool.{not}
 use mathlib.Core.List.{List, [], _∷_}
 use Prim.Native.Nat.{ℕ, zero, suc, _+_, _-_, _<_}
@@ -9,32 +8,18 @@ use lib.Dec.{eqb}
 use Rattle.std.specs.Options.{Cases as BySome, isSome}
 use Rattle.std.specs.declared.option.Option.{Option}
 use Rattle.std.specs.declared.option.Option.the-variants.{Some, None}
-use Rattle.std.proofs.shelf.Tests.{eq-eqb, ne-eqb, cases-eq, cond-false}
+use Rattle.std.proofs.shelf.Tests.{eq-eqb, ne-eqb}
 use Rattle.quantities.specs.declared.ids.TaskId.{TaskId}
 use Rattle.queues.specs.Members.{Member, Free, rest}
 use Rattle.queues.specs.Outcomes.{First}
 use Rattle.queues.specs.declared.queue_id.QueueId.{QueueId}
 use Rattle.sched.specs.House.{House, firstOf, restOf, runner}
-use Rattle.sched.specs.Promise.{Comes, times}
+use Rattle.sched.specs.Promise.{Comes}
 use Rattle.sched.specs.Stores.{ownerOf}
+use Rattle.sched.proofs.Keep.{member-times, times-member}
 use Rattle.sched.proofs.model.Stands.{times-one, waits-in}
 use Rattle.sched.proofs.model.Runner.{runner-next}
 use Rattle.sched.proofs.model.Rings.{comes-stands, waiter-is-task}
-
-member-times : (i : ℕ) (l : List ℕ) → Member i l → 0 < times i l
-unfolding times
-member-times i [] m = absurd m
-member-times i (j ∷ js) (inl e) = rw (eq-eqb i j e) (omega arith)
-member-times i (j ∷ js) (inr m) = let l = member-times i js m in omega arith
-
-times-member : (i : ℕ) (l : List ℕ) → 0 < times i l → Member i l
-unfolding times
-times-member i [] l = absurd (omega arith)
-times-member i (j ∷ js) l =
-    elim (cases-eq i j) [
-      | inl e ↦ inl e
-      | inr n ↦ inr (times-member i js (omega (arith, cond-false {A = ℕ} (eqb i j) 1 0 (ne-eqb i j n))))
-    ]
 
 module _ (h : House) (c : Comes h) (i : ℕ) where
   -- whoever stands in m's row waits for m

@@ -1,4 +1,4 @@
--- Positions are ordered: being behind is irreflexive and transitive, and so is not being behind where weights are positive.
+-- Positions are ordered: being behind is irreflexive and transitive, and not being behind is transitive where weights are positive.
 use mathlib.Core.Path.{_≡_, sym, _∙_}
 use Prim.Native.Nat.{ℕ, _*_, _≤_, _<_}
 use native.Mathlib.Nat.{mul-zero, mul-comm, mul-assoc, mul-le-mul-right, mul-lt-mul-of-pos-right, lt-of-mul-lt-mul-left, lt-of-mul-lt-mul-right, le-of-mul-le-mul-right}

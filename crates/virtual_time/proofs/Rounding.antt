@@ -1,4 +1,4 @@
--- A rest in parts of another weight, rounded up: at most a whole, and the least that is not behind.
+-- A rest in parts of another weight, rounded up: at most a whole, and not behind.
 use Prim.Native.Nat.{ℕ, _+_, _-_, _*_, _/_, _≤_, _<_}
 use native.Mathlib.Nat.{add-mul, mul-add, mul-comm, mul-le-mul-right, lt-mul-div-succ}
 use native.Mathlib.Omega.{arith}
@@ -16,9 +16,3 @@ upRest-most r o w h =
 pub upRest-enough : (r o w : ℕ) → 0 < o → r * w ≤ upRest r o w * o
 upRest-enough r o w h =
     omega (arith, lt-mul-div-succ (r * w + (o - 1)) h, mul-add o (upRest r o w) 1, mul-comm o (upRest r o w))
-
--- Nor more than it has to be.
-pub upRest-least : (r o w u : ℕ) → 0 < o → r * w ≤ u * o → upRest r o w ≤ u
-upRest-least r o w u h enough =
-    let below : r * w + (o - 1) < (u + 1) * o = omega (arith, add-mul u 1 o) in
-    omega (arith, div-below (r * w + (o - 1)) o (u + 1) h below)

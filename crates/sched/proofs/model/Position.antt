@@ -4,7 +4,7 @@ use mathlib.Core.Path.{_≡_, refl}
 use mathlib.Core.Logic.{⊎-elim}
 use mathlib.Core.Bool.{Bool, true, false, cond, _&&_, false≢true}
 use Prim.Native.Nat.{ℕ, _+_, _-_, _*_, _/_, _%_, _<_, _≤_}
-use native.Mathlib.Nat.{mul-le-mul-right, mod-lt, le-trans, lt-of-mul-lt-mul-left}
+use native.Mathlib.Nat.{mul-le-mul-right, mod-lt, le-trans}
 use native.Mathlib.Omega.{arith}
 use lib.Dec.{eqb, ltb}
 use Rattle.std.proofs.shelf.Tests.{cases-bool, cases-lt, or-cases, or-parts, and-parts, and-cases, ltb-true, ltb-false, eqb-true, eqb-false}
@@ -25,14 +25,6 @@ less-far-false f r o g s p lr ls e =
     let over : (g < f) → (g * p + s) * o ≤ (f * o + r) * p = λ l. omega (arith, lt-by-whole g s p f r o ls (omega arith) l) in
     ⊎-elim (λ n. over (let apart : f ≡ g → ⊥ = eqb-false f g n in omega arith))
     (λ n. ⊎-elim over (λ l. le-by-rest g s p f r o (omega arith) (ltb-false (r * p) (s * o) n)) (cases-lt g f)) (and-cases (eqb f g) (ltb (r * p) (s * o)) (parts .1))
-
-pub less-far-since : (f r o g s p : ℕ) → r < o → s < p → (f * o + r) * p < (g * p + s) * o → lessFar f r o g s p ≡ true
-less-far-since f r o g s p lr ls l =
-    ⊎-elim (λ e. e) (λ e. absurd (omega (arith, less-far-false f r o g s p lr ls e))) (cases-bool (lessFar f r o g s p))
-
-pub less-far-unless : (f r o g s p : ℕ) → r < o → s < p → (g * p + s) * o ≤ (f * o + r) * p → lessFar f r o g s p ≡ false
-less-far-unless f r o g s p lr ls l =
-    ⊎-elim (λ e. absurd (omega (arith, less-far-true f r o g s p lr ls e))) (λ e. e) (cases-bool (lessFar f r o g s p))
 
 -- ONE TASK of weight w, f and r parts far, with the mark at m and s parts of o.
 pub record Position (w f r m s o : ℕ) (wanted : Bool) : Type 0 where
@@ -88,9 +80,3 @@ position-stepped g w f r m s o b ls at least =
 pub position-either : (j : Bool) (w f r g t m s o : ℕ) (b : Bool) → (j ≡ true → Position w f r m s o b) → (j ≡ false → Position w g t m s o b) → Position w (cond j f g) (cond j r t) m s o b
 position-either true w f r g t m s o b yes' no' = yes' refl
 position-either false w f r g t m s o b yes' no' = no' refl
-
--- so its whole part is at most two beyond the mark's
-pub far-within : (w f r m s o : ℕ) (b : Bool) → s < o → Position w f r m s o b → f ≤ m + 2
-far-within w f r m s o b ls at =
-    let parts : f * w + r < m * w + w + 2 = lt-of-mul-lt-mul-left o (omega (arith, mul-le-mul-right w ls)) in
-    ⊎-elim (λ l. omega arith) (λ l. absurd (omega (arith, mul-le-mul-right w l))) (cases-lt f (m + 3))

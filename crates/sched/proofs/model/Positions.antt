@@ -6,14 +6,15 @@ use Prim.Native.Nat.{ℕ, suc, _+_, _-_, _*_, _/_, _%_, _<_, _≤_}
 use native.Mathlib.Nat.{le-refl, le-of-lt}
 use native.Mathlib.Omega.{arith}
 use lib.Dec.{eqb, ltb, T}
-use Rattle.std.proofs.shelf.Tests.{cond-both, cases-bool, cases-eq, and-parts, not-true, lt-ltb, eq-eqb, ne-eqb, ltb-true, eqb-true}
-use Rattle.sched.specs.House.{House, Place, Nobody, A, Kept, Window, Shut, Open, lessFar, weightOf, empty, put, leaves, isReserved, wants, fairWants, joins, joined, windowed, opened, leastFar, nearer, some', first', moves, goesOn, freed, passed, ticked, calls, quotaOf, periodOf, after, mayRun, numberOf}
+use Rattle.std.proofs.shelf.Tests.{cases-bool, cases-eq, and-parts, not-true, lt-ltb, eq-eqb, ne-eqb, ltb-true, eqb-true}
+use Rattle.sched.specs.House.{House, Place, Nobody, A, Kept, Window, Shut, Open, lessFar, weightOf, empty, put, leaves, wants, fairWants, joins, joined, windowed, opened, leastFar, nearer, some', first', moves, goesOn, freed, passed, ticked, calls, after, mayRun, numberOf}
 use Rattle.sched.specs.Promise.{Comes, begin, called, ran}
 use Rattle.sched.specs.declared.Call.{Call}
 use Rattle.std.specs.declared.option.Option.{Option}
 use Rattle.sched.proofs.Puts.{put-else, put-both}
 use Rattle.sched.proofs.Bounded.{some-from, none-at, first-is}
 use Rattle.sched.proofs.Fractions.{le-trans-frac}
+use Rattle.sched.proofs.model.Places.{leaves-weightless}
 use Rattle.sched.proofs.model.Runner.{runner-same}
 use Rattle.sched.proofs.model.TakeWays.{run-taken, fair-takes}
 use Rattle.sched.proofs.model.CallWays.{Ways, call-ways}
@@ -51,18 +52,13 @@ module _ (place : ℕ → Place) (far rest : ℕ → ℕ) (m s o : ℕ) (wanted 
             (λ e. rw (ne-eqb i n e, same i e) (at .each i (rw (same i e) at l))) (cases-eq i n);
       }
 
-leaves-weight : (w : Window) (p : Place) → weightOf (leaves w p) ≡ 0
-unfolding leaves weightOf
-leaves-weight Shut p = refl
-leaves-weight (Open e g b) p = cond-both (isReserved p) (Kept (quotaOf p) (periodOf p)) Nobody (λ x. weightOf x ≡ 0) (λ _. refl) (λ _. refl)
-
 positions-ways : (h : House) → PositionsOf h → Ways h (λ o. PositionsOf (o .house))
 positions-ways h at =
     record {
       refused = λ n. at;
       make = λ n k _ l _ _ _. positions-made (h .place) (h .far) (h .rest) (h .markFar) (h .markRest) (h .markOver) (h .wanted) at n (put n (A k) (h .place)) l (put-else n (A k) (h .place));
       end = λ i _ _ _ _. positions-placed (h .place) (h .far) (h .rest) (h .markFar) (h .markRest) (h .markOver) (h .wanted) at (put i (leaves (h .window i) (h .place i)) (h .place))
-          (λ j. put-both i (leaves (h .window i) (h .place i)) (h .place) j (λ p. 0 < weightOf p → weightOf p ≡ weightOf (h .place j)) (λ _ l. absurd (omega (arith, leaves-weight (h .window i) (h .place i)))) (λ _ _. refl));
+          (λ j. put-both i (leaves (h .window i) (h .place i)) (h .place) j (λ p. 0 < weightOf p → weightOf p ≡ weightOf (h .place j)) (λ _ l. absurd (omega (arith, leaves-weightless (h .window i) (h .place i)))) (λ _ _. refl));
       wake = λ i _ _. at;
       sleep = λ i _ _ _. at;
       take = λ i m _ _ _ _ _ _. at;

@@ -12,19 +12,21 @@ use Rattle.std.specs.declared.option.Option.{Option}
 use Rattle.sched.specs.declared.Kind.{Kind}
 use Rattle.sched.specs.declared.Kind.the-variants.{Reserved, Fixed, Fair}
 use Rattle.sched.specs.declared.Call.{Call}
-use Rattle.sched.specs.House.{House, empty, Place, Nobody, A, Kept, Window, Shut, Open, Out, sum, good, isReserved, isTask, quotaOf, periodOf, shareOf, shareOfKind, gotOf, wants, runner, due, opened, openWith, openKept, passed, freed, served, leaves, after, numberOf, calls, kept}
+use Rattle.sched.specs.House.{House, empty, Place, Nobody, A, Kept, Window, Shut, Open, Out, sum, good, isReserved, isTask, quotaOf, periodOf, shareOf, shareOfKind, gotOf, wants, due, opened, openWith, openKept, passed, freed, served, leaves, after, numberOf, calls, kept}
 use Rattle.sched.specs.Promise.{Comes}
 use Rattle.sched.specs.Windows.{Formed, vacant, closed, running, lingering, endsOf, isWhole}
 use Rattle.sched.specs.Demand.{Covered}
 use Rattle.sched.specs.Quotas.{Quotas, owedOf}
 use Rattle.sched.specs.Policy.{wholeDue, WholeFirst, mayHave, Follows, begin, called, ran, QuotasHad}
-use Rattle.sched.proofs.Tests.{true-T, and-T, and-left-T, and-right-T}
+use Rattle.sched.proofs.Tests.{T-true, true-T, and-T, and-left-T, and-right-T}
 use Rattle.sched.proofs.Puts.{put-both, put-two}
 use Rattle.sched.proofs.Bounded.{every-from}
 use Rattle.sched.proofs.Sums.{sum-some, sum-term}
 use Rattle.sched.proofs.Demand.{none-covered, Changes, change-covered, Passes, FirstServed, tick-covered, last-covered}
 use Rattle.sched.proofs.model.CallWays.{Ways, call-ways}
-use Rattle.sched.proofs.model.Windows.{numbers, begun, formed-begun, formed-call, formed-tick, due-got, take, take-below}
+use Rattle.sched.proofs.model.Ticks.{runner-opened}
+use Rattle.sched.proofs.model.TakeWays.{due-parts, have-taken}
+use Rattle.sched.proofs.model.Windows.{numbers, begun, formed-begun, formed-call, formed-tick}
 use Rattle.sched.proofs.model.Shares.{shares-call, freed-share}
 
 pub quotas-empty : Quotas (empty .place) (empty .window)
@@ -132,12 +134,6 @@ owed-due (A (Fair x)) (Open e g b) v l = absurd (omega arith)
 owed-due (Kept q p) Shut v l = absurd (omega arith)
 owed-due (Kept q p) (Open e g b) v l = absurd (omega arith)
 
--- the house's windows don't matter to who runs, nor so to who wants
-pub runner-opened : (n : ℕ) (h : House) (i : ℕ) → runner n (opened h) i ≡ runner n h i
-unfolding runner
-runner-opened zero h i = refl
-runner-opened (suc n) h i = rw (runner-opened n h (h .owner (h .waits i - 1) - 1)) refl
-
 whole-due : (h : House) (i : ℕ) → 0 < owedOf (h .place i) (opened h .window i) → T (wholeDue (opened h) i)
 whole-due h i l = rw (runner-opened 64 h i) (owed-due (h .place i) (h .window i) (wants h i) l)
 
@@ -225,7 +221,7 @@ module _ (h : House) (t : Option ℕ) where
   mine-less : (i : ℕ) → numberOf t ≡ suc i → T (wholeDue (opened h) i) → owed' i < owed i
   unfolding owed owed'
   mine-less i e d =
-      let some = due-owed (h .place i) (opened h .window i) (due-got (opened h) i (and-left-T (due (opened h) i) (isWhole (opened h .window i)) d)) (and-right-T (due (opened h) i) (isWhole (opened h .window i)) d) in
+      let some = due-owed (h .place i) (opened h .window i) (due-parts (opened h) i (T-true (due (opened h) i) (and-left-T (due (opened h) i) (isWhole (opened h .window i)) d)) .2) (and-right-T (due (opened h) i) (isWhole (opened h .window i)) d) in
       rw (eq-eqb (numberOf t) (suc i) e) (passed-mine (opened h .window i) (h .place i) some)
 
   -- the policy: who has the tick ends no later than anybody to whom something is owed
@@ -244,7 +240,7 @@ module _ (h : House) (t : Option ℕ) where
         | inl none ↦ inl (λ i l. let least = sum-term 64 i owed l in omega arith)
         | inr (i, l, o) ↦
             let w = f .first i l (whole-due h i o) in
-            inr (w .0, take-below (opened h) (w .0) (take h t j m (w .0) (w .1)), mine-less (w .0) (w .1) (w .2), soonest f (w .0) (w .1))
+            inr (w .0, have-taken h t j (w .0) m (w .1) .0, mine-less (w .0) (w .1) (w .2), soonest f (w .0) (w .1))
       ]
 
 -- a tick under the policy keeps the invariant

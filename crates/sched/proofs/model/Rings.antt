@@ -6,12 +6,13 @@ use Prim.Native.Nat.{ℕ, suc, _-_, _<_}
 use native.Mathlib.Omega.{arith}
 use lib.Dec.{eqb}
 use Rattle.std.proofs.shelf.Tests.{cond-false, eq-eqb, ne-eqb, true≢false}
-use Rattle.sched.specs.House.{House, Place, Window, Nobody, A, Kept, Shut, Open, Out, put, isTask, holds, freed, passed, leaves, runner, empty, opened, numberOf}
+use Rattle.sched.specs.House.{House, Place, A, Out, put, isTask, holds, freed, passed, leaves, runner, empty, opened, numberOf}
 use Rattle.sched.specs.Promise.{Comes, begin, called, ran, NoRings, RowsStand, times}
 use Rattle.sched.proofs.Tests.{T-true, true-T}
 use Rattle.sched.proofs.Puts.{put-both}
 use Rattle.sched.proofs.Bounded.{none-at}
 use Rattle.sched.proofs.model.CallWays.{Ways, call-ways}
+use Rattle.sched.proofs.model.Places.{freed-task}
 use Rattle.sched.proofs.model.Stands.{Waiter, Holder, in-no-row, free-row, keeps-tasks, leaves-place, takes-lock, frees-lock, passes-lock}
 use Rattle.sched.proofs.model.Runner.{Standing, Free, runner-free, runner-runner, runner-owner, queues-lock}
 
@@ -28,14 +29,6 @@ nobody-waits =
 
 made-task : (n : ℕ) (x : Place) (p : ℕ → Place) (i : ℕ) → isTask x ≡ true → isTask (p i) ≡ true → isTask (put n x p i) ≡ true
 made-task n x p i new old = put-both n x p i (λ z. isTask z ≡ true) (λ _. new) (λ _. old)
-
--- at the end of a tick only kept places go free
-still-task : (w : Window) (p : Place) → isTask p ≡ true → isTask (freed w p) ≡ true
-unfolding isTask freed
-still-task Shut Nobody t = t
-still-task Shut (A k) t = refl
-still-task Shut (Kept q p) t = t
-still-task (Open e g b) p t = t
 
 abbrev After : Out → Type 0
 After o = Standing (o .house)
@@ -65,7 +58,7 @@ comes-stands begin = nobody-waits
 comes-stands (called {h} c r) = call-ways h After (stands-called h (comes-stands r)) c
 comes-stands (ran {h} t j r ok) =
     keeps-tasks (h .place) (λ i. freed (passed (eqb (numberOf t) (suc i)) (opened h .window i)) (h .place i)) (h .waits) (h .owner) (h .row) (comes-stands r)
-    (λ i. still-task (passed (eqb (numberOf t) (suc i)) (opened h .window i)) (h .place i))
+    (λ i task. freed-task (passed (eqb (numberOf t) (suc i)) (opened h .window i)) (h .place i) ∙ task)
 
 pub no-rings : NoRings
 no-rings h r i l t =

@@ -9,11 +9,12 @@ use lib.Dec.{eqb}
 use Rattle.std.proofs.shelf.Tests.{cond-both, cond-true, cond-false, cases-eq, eq-eqb, ne-eqb, eqb-true, eqb-false}
 use Rattle.std.proofs.shelf.Ways.{tells}
 use Rattle.sched.specs.declared.Kind.the-variants.{Reserved, Fixed, Fair}
-use Rattle.sched.specs.House.{House, Place, Window, Nobody, A, Kept, Shut, Open, Out, put, isTask, isFixed, isReserved, quotaOf, periodOf, freed, passed, leaves, without, opened, after, numberOf}
+use Rattle.sched.specs.House.{House, Place, Nobody, A, Kept, Out, put, isTask, isFixed, passed, leaves, without, opened, after, numberOf}
 use Rattle.sched.specs.Promise.{Comes, begin, called, ran, times}
 use Rattle.sched.specs.Turns.{OnceInTurn, turnAfter}
 use Rattle.sched.proofs.Puts.{put-here, put-else}
 use Rattle.sched.proofs.model.CallWays.{Ways, call-ways}
+use Rattle.sched.proofs.model.Places.{leaves-none, freed-task}
 use Rattle.sched.proofs.model.Stands.{times-push}
 
 pub times-without : (i j : ℕ) (l : List ℕ) → times i (without j l) ≡ cond (eqb i j) 0 (times i l)
@@ -23,18 +24,6 @@ times-without i j (k ∷ ks) =
     let ih = times-without i j ks in
     cond-both (eqb j k) (without j ks) (k ∷ without j ks) (λ l. times i l ≡ cond (eqb i j) 0 (cond (eqb i k) 1 0 + times i ks))
     (λ e. let same = eqb-true j k e in grind (arith, tells)) (λ e. let apart = eqb-false j k e in grind (arith, tells))
-
-leaves-none : (w : Window) (p : Place) → isTask (leaves w p) ≡ false
-unfolding leaves isTask
-leaves-none Shut p = refl
-leaves-none (Open e g b) p = cond-both (isReserved p) (Kept (quotaOf p) (periodOf p)) Nobody (λ q. isTask q ≡ false) (λ _. refl) (λ _. refl)
-
-freed-task : (w : Window) (p : Place) → isTask (freed w p) ≡ isTask p
-unfolding freed isTask
-freed-task Shut Nobody = refl
-freed-task Shut (A k) = refl
-freed-task Shut (Kept q p) = refl
-freed-task (Open e g b) p = refl
 
 pub fixed-task : (p : Place) → isFixed p ≡ true → isTask p ≡ true
 unfolding isFixed isTask

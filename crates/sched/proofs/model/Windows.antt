@@ -1,22 +1,23 @@
--- Windows are well formed in every house that can come about: calls and ticks keep them so.
-use mathlib.Core.Path.{_≡_, refl, sym, subst}
+-- Windows are well formed in every house that can come about, since calls and ticks keep them so; and a reserved task has a tick only within its quota.
+use mathlib.Core.Path.{_≡_, refl}
 use mathlib.Core.Logic.{_⊎_, inl, inr}
 use mathlib.Core.Bool.{Bool, true, false, cond, _&&_, false≢true}
-use mathlib.Core.List.{List, [], _∷_}
-use Prim.Native.Nat.{ℕ, zero, suc, _+_, _-_, _%_, _<_, _≤_}
+use Prim.Native.Nat.{ℕ, zero, suc, _+_, _%_, _<_, _≤_}
 use native.Mathlib.Omega.{arith}
-use lib.Dec.{T, eqb, ltb, leb, leb→le, ltb→lt, eqb→eq}
-use Rattle.std.proofs.shelf.Tests.{cond-both, eqb-true}
+use lib.Dec.{T, eqb, leb, leb→le, eqb→eq}
+use Rattle.std.proofs.shelf.Tests.{eqb-true}
 use Rattle.std.specs.declared.option.Option.{Option}
 use Rattle.sched.specs.declared.Kind.the-variants.{Reserved, Fixed, Fair}
 use Rattle.sched.specs.declared.Call.{Call}
-use Rattle.sched.specs.House.{House, Place, Nobody, A, Kept, Window, Shut, Out, good, isReserved, isFixed, isTask, weightOf, rankOf, rankWants, topRank, inTurn, leastFar, fairWants, some', quotaOf, periodOf, gotOf, wants, runner, due, mayTake, opened, openWith, openKept, passed, freed, leaves, after, numberOf, calls, kept}
-use Rattle.sched.specs.Promise.{begin, called, ran}
+use Rattle.sched.specs.House.{House, Place, Nobody, A, Kept, Window, Shut, Out, good, isReserved, isFixed, isTask, weightOf, quotaOf, periodOf, gotOf, wants, opened, openWith, openKept, passed, freed, leaves, after, numberOf, calls}
+use Rattle.sched.specs.Promise.{Comes, begin, called, ran}
 use Rattle.sched.specs.Windows.{Formed, vacant, closed, running, lingering, WindowsWellFormed}
 use Rattle.sched.specs.Policy.{mayHave}
 use Rattle.sched.proofs.Tests.{T-true, true-T, and-left-T, and-right-T}
 use Rattle.sched.proofs.Puts.{put-both, put-two}
 use Rattle.sched.proofs.model.CallWays.{Ways, call-ways}
+use Rattle.sched.proofs.model.Ticks.{run-have}
+use Rattle.sched.proofs.model.TakeWays.{Takes, as-due, as-fixed, as-fair, due-parts, turn-parts, least-parts, have-taken, run-taken, reserved-takes}
 
 -- the numbers of a reservation
 pub record Numbers (q p : ℕ) : Type 0 where
@@ -87,13 +88,6 @@ formed-leaves (running q p e g b k l u m) t = lingering q p e g b k l u m
 formed-leaves (lingering q p e g b k l u m) t = absurd (false≢true t)
 
 -- WHOSE TICK
-in-turn : (f : ℕ → Bool) (l : List ℕ) (i : ℕ) → inTurn f l ≡ suc i → f i ≡ true
-unfolding inTurn
-in-turn f [] i = λ e. absurd (omega arith)
-in-turn f (j ∷ js) i =
-    cond-both (f j) (suc j) (inTurn f js) (λ x. x ≡ suc i → f i ≡ true)
-    (λ t e. let same : j ≡ i = omega arith in subst (λ x. f x ≡ true) same t) (λ _ e. in-turn f js i e)
-
 fixed-period : (p : Place) → isFixed p ≡ true → periodOf p ≡ 0
 unfolding isFixed periodOf
 fixed-period Nobody t = refl
@@ -110,59 +104,18 @@ fair-period (A (Fixed r)) l = refl
 fair-period (A (Fair x)) l = refl
 fair-period (Kept q p) l = absurd (omega arith)
 
--- why i may have the tick: it is due; or nobody is, and it is in turn among the fixed ones, or the least far of the fair ones
-pub data Taken (h : House) (i : ℕ) : Type 0 where
-  by-due : T (due h i) → Taken h i
-  by-rank : some' 16 (λ (r : ℕ). some' 64 (rankWants h r)) ≡ true → periodOf (h .place i) ≡ 0 → Taken h i
-  by-fair : T (leastFar h i) → periodOf (h .place i) ≡ 0 → Taken h i
-
-module _ (h : House) (i : ℕ) where
-  pub due-got : T (due h i) → gotOf (h .window i) < quotaOf (h .place i)
-  due-got d = ltb→lt (gotOf (h .window i)) (quotaOf (h .place i)) (and-right-T (isReserved (h .place i) && wants h i) (ltb (gotOf (h .window i)) (quotaOf (h .place i))) d)
-
-  ranked : T (eqb (suc i) (inTurn (rankWants h (topRank h)) (h .turn))) → periodOf (h .place i) ≡ 0
-  ranked t =
-      let r : rankWants h (topRank h) i ≡ true = in-turn (rankWants h (topRank h)) (h .turn) i (sym (eqb→eq (suc i) (inTurn (rankWants h (topRank h)) (h .turn)) t)) in
-      let f = isFixed (h .place i) in
-      let e = eqb (rankOf (h .place i)) (topRank h) in
-      fixed-period (h .place i) (T-true f (and-left-T f e (and-left-T (f && e) (wants h i) (true-T (rankWants h (topRank h) i) r))))
-
-  fair : T (leastFar h i) → periodOf (h .place i) ≡ 0
-  fair t =
-      let w = ltb 0 (weightOf (h .place i)) in
-      fair-period (h .place i) (ltb→lt 0 (weightOf (h .place i)) (and-left-T w (wants h i) (and-left-T (fairWants h i) _ t)))
-
-  pub take-below : T (mayTake h i) → i < 64
-  take-below t = ltb→lt i 64 (and-left-T (ltb i 64) _ t)
-
-  pub take-ways : T (mayTake h i) → Taken h i
-  take-ways t =
-      let P : Bool → Type 0 = λ b. T b → Taken h i in
-      cond-both (some' 64 (due h)) (due h i) _ P (λ _ d. by-due d)
-      (λ _. cond-both (some' 16 (λ (r : ℕ). some' 64 (rankWants h r))) (eqb (suc i) (inTurn (rankWants h (topRank h)) (h .turn))) (leastFar h i) P (λ s e. by-rank s (ranked e)) (λ _ e. by-fair e (fair e)))
-      (and-right-T (ltb i 64) _ t)
-
-  taken-entitled : Taken h i → Entitled (h .place i) (h .window i)
-  taken-entitled (by-due d) = inl (due-got d)
-  taken-entitled (by-rank _ e) = inr e
-  taken-entitled (by-fair _ e) = inr e
-
-  pub take-entitled : T (mayTake h i) → Entitled (h .place i) (h .window i)
-  take-entitled t = taken-entitled (take-ways t)
-
--- a tick that is i's is one that i may take
-have-take : (r i : ℕ) (rest : Bool) (take runs : ℕ → Bool) → r ≡ suc i → T (cond (eqb r 0) rest (take (r - 1) && runs (r - 1))) → T (take i)
-have-take r i rest take runs e =
-    cond-both (eqb r 0) rest (take (r - 1) && runs (r - 1)) (λ b. T b → T (take i)) (λ z _. let zero-is = eqb-true r 0 z in absurd (omega arith))
-    (λ _ t. let same : r - 1 ≡ i = omega arith in subst (λ x. T (take x)) same (and-left-T (take (r - 1)) (runs (r - 1)) t))
+taken-entitled : (h : House) (i : ℕ) → Takes h i → Entitled (h .place i) (h .window i)
+taken-entitled h i (as-due d) = inl (due-parts h i d .2)
+taken-entitled h i (as-fixed n s t) = inr (fixed-period (h .place i) (turn-parts h i t .0))
+taken-entitled h i (as-fair n m e) = inr (fair-period (h .place i) (least-parts h i e .0))
 
 module _ (h : House) (t : Option ℕ) (j : ℕ) (m : T (mayHave h t j)) where
-  pub take : (i : ℕ) → numberOf t ≡ suc i → T (mayTake (opened h) i)
-  take i e = have-take (numberOf t) i _ (mayTake (opened h)) (λ x. eqb j (runner 64 h x)) e m
+  -- whose tick it is, hasn't had its quota, or has none
+  pub have-entitled : (i : ℕ) → eqb (numberOf t) (suc i) ≡ true → Entitled (h .place i) (opened h .window i)
+  have-entitled i e = taken-entitled (opened h) i (have-taken h t j i m (eqb-true (numberOf t) (suc i) e) .1)
 
   pub formed-tick : ((i : ℕ) → Formed (h .place i) (h .window i)) → (i : ℕ) → Formed (after h t .place i) (after h t .window i)
-  formed-tick f i =
-      formed-passed (formed-begun (f i) (wants h i)) (eqb (numberOf t) (suc i)) (λ e. take-entitled (opened h) i (take i (eqb-true (numberOf t) (suc i) e)))
+  formed-tick f i = formed-passed (formed-begun (f i) (wants h i)) (eqb (numberOf t) (suc i)) (have-entitled i)
 
 -- CALLS
 abbrev AllFormed : Out → Type 0
@@ -185,7 +138,14 @@ formed-ways h f =
 pub formed-call : (h : House) (c : Call) → ((i : ℕ) → Formed (h .place i) (h .window i)) → (i : ℕ) → Formed (calls c h .house .place i) (calls c h .house .window i)
 formed-call h c f = call-ways h AllFormed (formed-ways h f) c
 
+pub windows-formed : (h : House) → Comes h → (i : ℕ) → Formed (h .place i) (h .window i)
+windows-formed h begin i = vacant
+windows-formed h (called {h = was} c r) i = formed-call was c (windows-formed was r) i
+windows-formed h (ran {h = was} t j r m) i = formed-tick was t j (run-have was t j m) (windows-formed was r) i
+
 pub windows-well-formed : WindowsWellFormed
-windows-well-formed h begin i = vacant
-windows-well-formed h (called {h = was} c r) i = formed-call was c (windows-well-formed was r) i
-windows-well-formed h (ran {h = was} t j r m) i = formed-tick was t j (and-left-T (mayHave was t j) (kept (opened was) (numberOf t)) m) (windows-well-formed was r) i
+windows-well-formed =
+    record {
+      formed = windows-formed;
+      within = λ h t j i m e r. due-parts (opened h) i (reserved-takes (opened h) i (run-taken h t j i m e .1) (T-true _ r)) .2;
+    }
