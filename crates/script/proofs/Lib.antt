@@ -7,3 +7,4 @@ pub mod Spelling
 pub mod Pages
 pub mod Drawing
 pub mod Parsing
+pub mod Apart

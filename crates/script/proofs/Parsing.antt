@@ -35,7 +35,7 @@ digits-word (x ∷ xs) e =
     let ne : eqb x 32 ≡ false = ne-eqb x 32 (λ q. omega (arith, l, q)) in
     ap (λ t. cond t ([] ∷ words xs) (onFirst x (words xs))) ne ∙ ap (onFirst x) (digits-word xs (p .1))
 
-numerals : Numerals (λ ds. allDigits ds ≡ true) (valueAfter 0)
+pub numerals : Numerals (λ ds. allDigits ds ≡ true) (valueAfter 0)
 unfolding allDigits valueAfter
 numerals = numerals-by-fold _ (search needs) valueAfter (search needs)
 
@@ -51,7 +51,7 @@ number-read n l =
     some-digits (decimal n) (decimal-some n m)
     ∙ valueOf-reads (decimal n) n (record { digits = digits-decimal numerals n m; value = value-decimal numerals n m; small = l })
 
-number-word : (n : ℕ) → n < 2 ^ 32 → words (decimal n) ≡ decimal n ∷ []
+pub number-word : (n : ℕ) → n < 2 ^ 32 → words (decimal n) ≡ decimal n ∷ []
 number-word n l = digits-word (decimal n) (digits-decimal numerals n (omega (arith, l)))
 
 numbers-words : (m n : ℕ) → m < 2 ^ 32 → n < 2 ^ 32 → words (twoNumbers m n) ≡ decimal m ∷ decimal n ∷ []

@@ -1,10 +1,15 @@
--- Each command in the language's own words, and that it is read so. Assumes nothing.
+-- Each command in the language's own words, and that it is read so; and that answers can be told apart. Assumes nothing.
 use mathlib.Core.Path.{_≡_}
+use mathlib.Core.Bool.{true}
 use mathlib.Core.List.{List, _++_}
 use Prim.Native.Nat.{ℕ, _^_, _<_}
 use lib.Chars.{codes}
 use Rattle.std.specs.Written.{decimal}
-use Rattle.std.specs.declared.option.Option.the-variants.{Some}
+use Rattle.std.specs.Options.{isSome}
+use Rattle.std.specs.declared.option.Option.{Option}
+use Rattle.std.specs.declared.option.Option.the-variants.{Some, None}
+use Rattle.sched.specs.declared.Answer.{Answer}
+use Rattle.sched.specs.declared.Answer.the-variants.{Done, Id, No}
 use Rattle.sched.specs.declared.Kind.{Kind}
 use Rattle.sched.specs.declared.Kind.the-variants.{Reserved, Fixed, Fair}
 use Rattle.sched.specs.declared.Call.{Call}
@@ -12,6 +17,7 @@ use Rattle.sched.specs.declared.Call.the-variants.{Make, End, Wake, Sleep, Lock
 use Rattle.script.specs.declared.command.Command.{Command}
 use Rattle.script.specs.declared.command.Command.the-variants.{Call as Calls, Tick, Had, Any}
 use Rattle.script.specs.Grammar.{commandOf}
+use Rattle.script.specs.Text.{answerText, tickText}
 
 -- two numbers with a space between them
 abbrev pub twoNumbers : ℕ → ℕ → List ℕ
@@ -59,3 +65,20 @@ CommandFits (Any s n) = (s < 2 ^ 32) × (n < 2 ^ 32)
 -- what is written of a command is read as that command
 abbrev pub PrintedCommandsParse : Type 0
 PrintedCommandsParse = (c : Command) → CommandFits c → commandOf (commandText c) ≡ Some c
+
+abbrev pub AnswerFits : Answer → Type 0
+AnswerFits Done = Unit {0}
+AnswerFits (Id i) = i < 2 ^ 32
+AnswerFits (No n) = n < 2 ^ 32
+
+-- two answers to a call with one text are one answer
+abbrev pub AnswersApart : Type 0
+AnswersApart = (a b : Answer) → AnswerFits a → AnswerFits b → answerText a ≡ answerText b → a ≡ b
+
+abbrev pub TickFits : Option ℕ → ℕ → Type 0
+TickFits None runs = Unit {0}
+TickFits (Some i) runs = (i < 2 ^ 32) × (runs < 2 ^ 32)
+
+-- two ticks with one text are of one task, and the same runs in them
+abbrev pub TicksApart : Type 0
+TicksApart = (v w : Option ℕ) (r s : ℕ) → TickFits v r → TickFits w s → tickText v r ≡ tickText w s → (v ≡ w) × (isSome v ≡ true → r ≡ s)

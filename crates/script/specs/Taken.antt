@@ -33,6 +33,9 @@ pub record Standing (ws : List Word) (at : ℕ) (bad : Bool) (xs : List ℕ) : T
 abbrev pub NoNext : List (List ℕ) → ℕ → Bool → Type 0
 NoNext vs at bad = (bad ≡ false → getD vs at [] ≡ []) ⊎ (at ≡ 3)
 
+abbrev pub Stands : Line → List ℕ → Type 0
+Stands l xs = Standing (l .words) (l .at) (l .bad) xs
+
 pub record LineTaken (l : Line) (xs : List ℕ) : Type 0 where
   pub begun : l .begun ≡ ltb 0 (length xs)
-  pub standing : Standing (l .words) (l .at) (l .bad) xs
+  pub standing : Stands l xs

@@ -7,7 +7,7 @@ ghost use Rattle.std.specs.Results.{isOk};
 
 // Takes what is written. `Err` says that it can't be written any more.
 pub trait Sink {
-    // all that it took, one after the other, can be these bytes
+    // All that it took so far can be these bytes. A sink of which nothing is known, as the system's, holds this of any.
     ghost took: { Self → List ℕ → Type 0 };
 
     fn take(&mut self, lines: &[u8]) -> Result<(), Stopped>

@@ -12,7 +12,7 @@ struct Output<'a> {
 }
 
 impl Sink for Output<'_> as OutputSink {
-    // nothing is known of what the system wrote
+    // Nothing is known of what the system writes.
     ghost took = { λ _ _. Unit {0} };
 
     fn take(&mut self, lines: &[u8]) -> Result<(), Stopped> {

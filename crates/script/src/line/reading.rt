@@ -2,6 +2,8 @@
 ghost use mathlib.Core.Path.{_≡_};
 ghost use mathlib.Core.List.{List};
 ghost use Prim.Native.Nat.{ℕ};
+ghost use lib.Dec.{ltb};
+ghost use lib.ListN.{length};
 ghost use Rattle.script.specs.Grammar.{commandOf, oneWord, twoWords, kindOfOne, threeWords, fourWords};
 ghost use Rattle.script.specs.Taken.{WordAt, LineTaken};
 use super::Line;
@@ -10,6 +12,13 @@ use sched::Call;
 use sched::Kind;
 
 impl Line {
+    // A byte of it has come.
+    pub fn is_begun(&self) -> bool
+        ensures { λ r. ⌜ ((xs : List ℕ) → LineTaken (now (self .entry)) xs → r ≡ ltb 0 (length xs)) ⌝ }
+    {
+        self.begun
+    }
+
     // What the line asks for, if it is a command.
     pub fn command(&self) -> Option<Command>
         ensures { λ r. ⌜ ((xs : List ℕ) → LineTaken (now (self .entry)) xs → r ≡ commandOf xs) ⌝ }

@@ -15,12 +15,13 @@ returns-then-len-eq0 g c =
 pub returns : need.returns
 unfolding pending
 returns g c =
-    let p = c .args .self .now in
-    let e : take (p .len - 0) (p .bytes) ≡ take (p .len) (p .bytes) = ap (λ k. take k (p .bytes)) (omega arith) in
     record {
-      empty = refl;
+      empty = refl {a = 0};
       printed =
           λ ok xs h.
-          printed-on (g .S·Sink .took) (c .args .out .now) (c .take .last .self) p _ xs
-          (λ ys t. subst (λ (u : List ℕ). g .S·Sink .took (c .take .last .self) (ys ++ u)) e (c .take .ensures ok ys t)) refl h;
+          printed-on (g .S·Sink .took) (c .args .out .now) (c .take .last .self) (c .args .self .now) _ xs
+          (λ ys t. subst (λ (u : List ℕ). g .S·Sink .took (c .take .last .self) (ys ++ u)) (front (c .args .self .now .bytes) (c .args .self .now .len)) (c .take .ensures ok ys t)) (refl {a = 0}) h;
     }
+  where
+    front : (xs : List ℕ) (n : ℕ) → take (n - 0) xs ≡ take n xs
+    front xs n = ap (λ k. take k xs) (omega arith)
