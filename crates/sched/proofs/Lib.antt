@@ -3,6 +3,7 @@ pub mod Bounded
 pub mod Changes
 pub mod Demand
 pub mod Fractions
+pub mod Guarded
 pub mod Keep
 pub mod Lives
 pub mod Promises

@@ -1,4 +1,5 @@
 pub mod Demand
+pub mod Held
 pub mod House
 pub mod Nearer
 pub mod Policy
