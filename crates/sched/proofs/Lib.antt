@@ -4,6 +4,7 @@ pub mod Changes
 pub mod Choosing
 pub mod Demand
 pub mod Fractions
+pub mod Guarded
 pub mod Keep
 pub mod Lives
 pub mod Passing

@@ -1,5 +1,6 @@
 pub mod CallWays
 pub mod Fairness
+pub mod Held
 pub mod Kinds
 pub mod Outcomes
 pub mod Places

@@ -1,5 +1,6 @@
 pub mod Begun
 pub mod Demand
+pub mod Held
 pub mod House
 pub mod Midtick
 pub mod Policy

@@ -14,6 +14,7 @@ mod calls;
 mod class;
 mod fair;
 mod fixed;
+pub mod guard;
 mod locks;
 mod promise;
 mod refusal;
