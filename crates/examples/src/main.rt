@@ -3,7 +3,7 @@ mod expectation;
 mod transcript;
 
 use expectation::first_difference;
-use script::player::Player;
+use player::Player;
 use std::error::AnyError;
 use std::fs::File;
 use std::io::Read;

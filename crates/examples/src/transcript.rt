@@ -1,7 +1,7 @@
 // What a script's player writes, kept in memory.
 ghost use Prim.Native.Nat.{_≤_};
-use script::page::Sink;
-use script::page::Stopped;
+use script::sink::Sink;
+use script::sink::Stopped;
 use std::error::AnyError;
 
 #[derive(Drop)]
@@ -40,6 +40,8 @@ impl Room {
 }
 
 pub impl Sink for Room as RoomSink {
+    ghost took = { λ _ _. Unit {0} };
+
     fn take(&mut self, lines: &[u8]) -> Result<(), Stopped> {
         if self.push(lines) {
             Ok(())

@@ -1,8 +1,8 @@
 -- Runs grow at their end: one more entry, one more step answered. And the test on a log says just what the relation says.
-use mathlib.Core.Path.{_≡_, refl, sym, ap, subst, _∙_}
-use mathlib.Core.Bool.{Bool, true, false, _&&_}
+use mathlib.Core.Path.{_≡_, refl, ap, subst}
+use mathlib.Core.Bool.{true}
 use mathlib.Core.List.{List, [], _∷_, _++_}
-use Prim.Native.Nat.{ℕ, zero, suc, _<_}
+use Prim.Native.Nat.{ℕ, _<_}
 use native.Mathlib.Omega.{arith}
 use lib.Dec.{eqb, T, eqb→eq, eqb-refl}
 use lib.ListN.{length, getD}
@@ -15,7 +15,6 @@ use Rattle.sched.proofs.Tests.{and-T, and-left-T, and-right-T}
 use Rattle.memory.specs.declared.entry.Entry.{Entry}
 use Rattle.memory.specs.declared.entry.Entry.the-variants.{Ran, Called}
 use Rattle.memory.specs.declared.entry.Step.{Step}
-use Rattle.memory.specs.declared.entry.Step.the-variants.{Tick, Calls}
 use Rattle.memory.specs.Run.{Run, over, called, ran, Answers, tick, call, Follows, none, more, entered, outcome, sameAnswer, allowed, legal}
 
 -- THE TEST ON ANSWERS

@@ -2,6 +2,7 @@ pub mod Admission
 pub mod Idle
 pub mod InTurn
 pub mod Lending
+pub mod Nearer
 pub mod Nearest
 pub mod Quarter
 pub mod Reserved

@@ -7,7 +7,7 @@ ghost use Rattle.promises.specs.Nearest.{NearestEachOther, EqualsKeepPace};
 ghost use Rattle.promises.specs.Quarter.{QuarterLeft};
 ghost use Rattle.promises.specs.Reserved.{ReservedHas};
 ghost use Rattle.promises.specs.Scenes.{ScenesPlay};
-ghost use Rattle.sched.specs.Nearer.{NearerEachOther};
+ghost use Rattle.promises.specs.Nearer.{NearerEachOther};
 
 // Who runs in a task's tick is one to whom it lends it, and the tick counts for the task.
 pub fn lends() -> u8

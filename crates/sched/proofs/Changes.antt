@@ -25,7 +25,7 @@ use Rattle.sched.specs.Promise.{Comes, times}
 use Rattle.sched.specs.Stores.{Reads, placeOf, kindOf, taskPlace, ownerOf, windowOf, TurnOf, FairlyOf, madeAt, Stores}
 use Rattle.sched.proofs.Arrays.{reads-written, reads-same}
 use Rattle.sched.proofs.Puts.{put-both}
-use Rattle.sched.proofs.Standing.{fairly-placed}
+use Rattle.sched.proofs.positions.Standing.{fairly-placed}
 use Rattle.sched.proofs.model.CallWays.{made, ended, takes, queues}
 use Rattle.sched.proofs.model.Outcomes.{gives}
 use Rattle.sched.proofs.model.Places.{leaves-weightless}

@@ -1,6 +1,7 @@
+pub mod Begun
 pub mod Demand
 pub mod House
-pub mod Nearer
+pub mod Midtick
 pub mod Policy
 pub mod Promise
 pub mod Quotas

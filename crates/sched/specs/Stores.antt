@@ -12,6 +12,7 @@ use Rattle.std.specs.declared.option.Option.the-variants.{Some, None}
 use Rattle.quantities.specs.declared.ids.TaskId.{TaskId}
 use Rattle.queues.specs.Rings as queue
 use Rattle.virtual_time.specs.declared.position.Position.{Position}
+use Rattle.virtual_time.specs.Positions.{madeFar, madeRest}
 use Rattle.windows.specs.declared.Window as code-window
 use Rattle.windows.specs.declared.Window.the-variants as window-is
 use Rattle.sched.specs.declared.Scheduler.{Scheduler}
@@ -91,11 +92,15 @@ pub record Stands (base w far rest : ℕ) (p : Position) : Type 0 where
   pub weight : p .weight .value ≡ w
   pub near : Near base far rest (p .whole) (p .rest)
 
--- what is kept for the mark, of which no part is lost
-pub record Marks (base far rest over : ℕ) (p : Position) : Type 0 where
+-- what is kept for a task of weight w that is made while this is kept for the mark: one part beyond it
+abbrev pub StandsBeyond : (base w : ℕ) (mark p : Position) → Type 0
+StandsBeyond base w mark p = Stands base w (base + madeFar (mark .whole) (mark .rest) (mark .weight .value) w) (madeRest (mark .rest) (mark .weight .value) w) p
+
+-- what is kept where no part may be lost: of the mark, and of whoever wants a tick
+pub record Exact (base w far rest : ℕ) (p : Position) : Type 0 where
+  pub weight : p .weight .value ≡ w
   pub whole : far ≡ base + p .whole
   pub part : rest ≡ p .rest
-  pub over' : over ≡ p .weight .value
 
 -- what is kept for each fair task
 pub record AllStand (base : ℕ) (positions : List Position) (place : ℕ → Place) (far rest : ℕ → ℕ) : Type 0 where
@@ -106,7 +111,7 @@ pub record AllStand (base : ℕ) (positions : List Position) (place : ℕ → Pl
 pub record Fairly (f : code-fair.Fair) (place : ℕ → Place) (far rest : ℕ → ℕ) (markFar markRest markOver : ℕ) (wanted : ℕ → Bool) : Type 0 where
   pub base : ℕ
   pub all : AllStand base (f .positions) place far rest
-  pub mark : Marks base markFar markRest markOver (f .mark)
+  pub mark : Exact base markOver markFar markRest (f .mark)
   pub flags : Reads (λ (b : Bool). b) false (f .wanted) wanted
   pub low : f .mark .whole < 1024
 

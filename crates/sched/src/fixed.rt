@@ -2,10 +2,12 @@
 ghost use mathlib.Core.Path.{_≡_};
 ghost use mathlib.Core.Bool.{true, false};
 ghost use mathlib.Core.List.{List, [], _∷_, _++_};
-ghost use Prim.Native.Nat.{ℕ};
-ghost use Rattle.sched.specs.House.{Place, empty, isFixed, without, put};
+ghost use Prim.Native.Nat.{ℕ, _<_};
+ghost use Rattle.queues.specs.Rings.{Holds};
+ghost use Rattle.sched.specs.House.{House, Place, empty, isFixed, without, put, inTurn, rankWants};
 ghost use Rattle.sched.specs.Promise.{times};
 ghost use Rattle.sched.specs.Stores.{TurnOf, ownerOf, taskPlace};
+ghost use Rattle.sched.specs.Midtick.{WantsOf, asking, fixedWants, FirstInTurn};
 ghost use Rattle.sched.specs.Turns.{OnceInTurn, turnAfter};
 use crate::class::Class;
 use crate::promise::Promise;
@@ -63,29 +65,48 @@ impl Fixed {
     }
 
     // The first of a rank that wants the tick.
-    fn first_wanting(&self, rank: Rank, wants: &Wants) -> Option<TaskId> {
+    fn first_wanting(&self, rank: Rank, wants: &Wants) -> Option<TaskId>
+        ensures { λ r. ⌜ ((f : ℕ → List ℕ) (h : House) → Holds (now (self .entry) .turn) f → WantsOf (now (wants .entry)) h → ownerOf r ≡ inTurn (asking h) (f (rank .value))) ⌝ }
+    {
         let mut at = self.turn.front(QueueId::of_rank(rank));
-        for _k in 0..64usize {
-            let Some(i) = at else {
-                return None;
-            };
-            if wants.of(i) {
-                return Some(i);
+        for k in 0..64usize {
+            match at {
+                Some(i) => {
+                    if wants.of(i) {
+                        return Some(i);
+                    }
+                    at = self.turn.next(i);
+                }
+                None => return None,
             }
-            at = self.turn.next(i);
         }
         None
+    }
+
+    // The same, of the rank of this number, if there is one.
+    fn first_of(&self, number: u32, wants: &Wants) -> Option<TaskId>
+        ensures { λ r. ⌜ ((h : House) → TurnOf (now (self .entry)) (h .place) (h .turn) → WantsOf (now (wants .entry)) h → number < 16 → ownerOf r ≡ inTurn (rankWants h number) (h .turn)) ⌝ }
+    {
+        match Rank::new(number) {
+            Some(rank) => self.first_wanting(rank, wants),
+            None => None,
+        }
     }
 }
 
 pub impl Class for Fixed as FixedClass {
+    ghost stands = { λ s h. TurnOf s (h .place) (h .turn) × OnceInTurn (h .place) (h .turn) };
+
+    ghost asks = { fixedWants };
+
+    ghost owed = { FirstInTurn };
+
     // The first rank of which one wants the tick, and of these the one longest without.
     fn candidate(&self, _tasks: &Tasks, wants: &Wants) -> Option<TaskId> {
         for k in 0..16u32 {
-            if let Some(rank) = Rank::new(k) {
-                if let Some(i) = self.first_wanting(rank, wants) {
-                    return Some(i);
-                }
+            let first = self.first_of(k, wants);
+            if first.is_some() {
+                return first;
             }
         }
         None

@@ -1,14 +1,14 @@
 // Whoever calls and runs, the scheduler, and the hours between them.
 ghost use mathlib.Core.Path.{_≡_};
 ghost use mathlib.Core.Bool.{true, false};
-ghost use Prim.Native.Nat.{ℕ, _<_, _≤_, _+_};
+ghost use Prim.Native.Nat.{ℕ, suc, _<_, _≤_, _+_};
 ghost use lib.Dec.{T};
-ghost use Rattle.sched.specs.House.{House, empty, calls, mayRun, after, goesOn'};
+ghost use Rattle.sched.specs.House.{House, empty, calls, runner, mayRun, after, numberOf, goesOn'};
 ghost use Rattle.sched.specs.Promise.{NoRings, SharesFit, RowsStand, NearEachOther};
 ghost use Rattle.sched.specs.Windows.{WindowsWellFormed};
 ghost use Rattle.sched.specs.Policy.{QuotasHad};
 ghost use Rattle.sched.specs.Refusals.{isNo};
-ghost use Rattle.sched.specs.Stores.{Holds};
+ghost use Rattle.sched.specs.Stores.{Holds, Locked, ownerOf};
 
 mod calls;
 mod class;
@@ -121,7 +121,9 @@ impl Scheduler {
     }
 
     // Whose the next tick is, and who runs in it.
-    pub fn pick(&mut self) -> (Option<u32>, u32) {
+    pub fn pick(&mut self) -> (Option<u32>, u32)
+        ensures { λ r. ⌜ ((h : House) → Holds (now (self .entry)) h → T (mayRun h (r .0) (r .1)) × Holds (now (self .exit)) (after h (r .0))) ⌝ }
+    {
         let wants = Wants::now(&self.tasks, &self.locks);
         self.begin(&wants);
         let whose = self.choose(&wants);
@@ -130,7 +132,10 @@ impl Scheduler {
     }
 
     // By their numbers: whose the tick is, and its runner.
-    fn named(&self, whose: Option<TaskId>) -> (Option<u32>, u32) {
+    fn named(&self, whose: Option<TaskId>) -> (Option<u32>, u32)
+        ensures number { λ r. ⌜ numberOf (r .0) ≡ ownerOf whose ⌝ }
+        ensures runs { λ r. ⌜ ((h : House) (i : ℕ) → Locked (now (self .entry) .locks) h → ownerOf whose ≡ suc i → r .1 ≡ runner 64 h i) ⌝ }
+    {
         match whose {
             Some(i) => (Some(i.number()), self.locks.runner(i).number()),
             None => (None, 0),
@@ -142,6 +147,30 @@ pub fn scheduler_is_small() -> bool
     ensures { λ r. ⌜ T r ⌝ }
 {
     std::mem::size_of::<Scheduler>() <= 65536
+}
+
+// THE MAIN PROMISE. Whatever is called, tick after tick.
+pub fn hours<W: World>(w: &mut W, many: u64)
+    requires begins { ⌜ house (now w) ≡ empty ⌝ }
+{
+    let mut s = Scheduler::new();
+    let mut n: u64 = 0;
+    while n < many {
+        n += 1;
+        match w.next() {
+            Next::Calls(c) => {
+                let a = s.call(c);
+                w.told(c, a);
+            }
+            Next::Tick => {
+                let (t, j) = s.pick();
+                w.runs(t, j);
+            }
+            Next::Over => {
+                return;
+            }
+        }
+    }
 }
 
 // What is promised beside, each a theorem that a contract names.

@@ -1,8 +1,10 @@
-// The script language: a line to a command, commands to calls and ticks, answers to text.
+// The script language: a line to a command, an answer to text, and how `any` chooses.
 pub mod command;
+mod digits;
 pub mod generator;
+pub mod laws;
 pub mod line;
-pub mod page;
-pub mod player;
-pub mod theatre;
+mod page;
+pub mod printer;
+pub mod sink;
 pub mod word;

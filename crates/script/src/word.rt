@@ -1,4 +1,12 @@
 // A word of a line, taken in byte by byte: a name of the language, a number, or neither.
+ghost use mathlib.Core.Path.{_≡_};
+ghost use mathlib.Core.List.{List, [], _∷_, _++_};
+ghost use Prim.Native.Nat.{ℕ, _≤_};
+ghost use lib.Dec.{eqb};
+ghost use lib.ListN.{length};
+ghost use Rattle.std.specs.shelf.Text.{sameBytes};
+ghost use Rattle.script.specs.Grammar.{valueOf, numberOf};
+ghost use Rattle.script.specs.Taken.{WordTaken};
 
 // No name of the language is longer.
 const LONGEST: usize = 8;
@@ -14,7 +22,9 @@ pub struct Word {
 }
 
 impl Word {
-    pub fn new() -> Word {
+    pub fn new() -> Word
+        ensures { λ r. ⌜ WordTaken r [] ⌝ }
+    {
         Word {
             text: [0; 8],
             len: 0,
@@ -22,24 +32,31 @@ impl Word {
         }
     }
 
-    pub fn is_empty(&self) -> bool {
+    pub fn is_empty(&self) -> bool
+        ensures { λ r. ⌜ ((xs : List ℕ) → WordTaken (now (self .entry)) xs → r ≡ eqb (length xs) 0) ⌝ }
+    {
         self.len == 0
     }
 
     // One byte more.
-    pub fn push(&mut self, byte: u8) {
+    pub fn push(&mut self, byte: u8)
+        ensures { λ _. ⌜ ((xs : List ℕ) → WordTaken (now (self .entry)) xs → WordTaken (now (self .exit)) (xs ++ (byte ∷ []))) ⌝ }
+    {
         self.value = one_digit_more(self.value, byte);
         if self.len < LONGEST {
             self.text[self.len] = byte;
-        }
-        if self.len <= LONGEST {
             self.len += 1;
+        } else {
+            self.len = LONGEST + 1;
         }
     }
 
     // Whether it is this name.
-    pub fn is(&self, name: &[u8]) -> bool {
-        if self.len != name.len() || self.len > LONGEST {
+    pub fn is(&self, name: &[u8]) -> bool
+        requires { ⌜ length (now name) ≤ 8 ⌝ }
+        ensures { λ r. ⌜ ((xs : List ℕ) → WordTaken (now (self .entry)) xs → r ≡ sameBytes xs (now (name .entry))) ⌝ }
+    {
+        if self.len != name.len() {
             return false;
         }
         for k in 0..name.len() {
@@ -51,7 +68,9 @@ impl Word {
     }
 
     // The number that it is, if it is one below 2^32; leading zeros are allowed.
-    pub fn number(&self) -> Option<u32> {
+    pub fn number(&self) -> Option<u32>
+        ensures { λ r. ⌜ ((xs : List ℕ) → WordTaken (now (self .entry)) xs → r ≡ numberOf xs) ⌝ }
+    {
         if self.len == 0 {
             return None;
         }
@@ -60,7 +79,9 @@ impl Word {
 }
 
 // The number so far with a digit after it, unless that isn't a digit, or is too much.
-fn one_digit_more(value: Option<u32>, byte: u8) -> Option<u32> {
+fn one_digit_more(value: Option<u32>, byte: u8) -> Option<u32>
+    ensures { λ r. ⌜ ((xs : List ℕ) → value ≡ valueOf xs → r ≡ valueOf (xs ++ (byte ∷ []))) ⌝ }
+{
     if byte < b'0' || byte > b'9' {
         return None;
     }

@@ -12,7 +12,6 @@ use Rattle.sched.specs.declared.Call.{Call}
 use Rattle.sched.specs.declared.Call.the-variants.{Make, End, Wake, Sleep, Lock, Unlock}
 use Rattle.sched.specs.House.{House, leaves, Nobody, Out, weightOf, fairWants, joins, opened, windowed, ticked, goesOn, passed, calls, after, mayRun, numberOf}
 use Rattle.sched.specs.Promise.{Comes, Together, begins, called, ran, endsNone, mine, NearEachOther}
-use Rattle.sched.specs.Nearer.{NearerEachOther}
 use Rattle.sched.proofs.Tests.{T-true}
 use Rattle.sched.proofs.Puts.{put-else}
 use Rattle.sched.proofs.Fractions.{near-le-frac}
@@ -182,7 +181,7 @@ pub strictly-nearer : (i j : ℕ) (h : House) (a b : ℕ) → Together i j h a b
     a * weightOf (h .place j) < b * weightOf (h .place i) + 2 * weightOf (h .place i) + weightOf (h .place j)
 strictly-nearer i j h a b s heavy = bound-so-far i j h (positions-come (together-comes s)) a b heavy (together-running i j s)
 
-pub nearer-each-other : NearerEachOther
+pub nearer-each-other : (i j : ℕ) (h : House) (a b : ℕ) → Together i j h a b → a * weightOf (h .place j) ≤ b * weightOf (h .place i) + 2 * weightOf (h .place i) + weightOf (h .place j)
 nearer-each-other i j h a b s =
     ⊎-elim (λ e. rw e (omega arith)) (λ r. omega (arith, r .counted .bound)) (together-running i j s)
 

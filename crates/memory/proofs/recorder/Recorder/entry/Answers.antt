@@ -1,8 +1,6 @@
 -- Below what is used an entry of the log is one of the entries.
-use mathlib.Core.Path.{_≡_, sym}
-use Prim.Native.Nat.{_≤_}
+use mathlib.Core.Path.{sym}
 use native.Mathlib.Omega.{arith}
-use lib.ListN.{length}
 use Rattle.std.proofs.shelf.Lists.{length-take-le, getD-take}
 use Rattle.memory.specs.Run.{blank}
 use Rattle.memory.proofs.recorder.Recorder.entry.Needs as need

@@ -1,7 +1,6 @@
 -- As many entries as were used.
-use mathlib.Core.Path.{_≡_, sym}
+use mathlib.Core.Path.{sym}
 use native.Mathlib.Omega.{arith}
-use lib.ListN.{length}
 use Rattle.std.proofs.shelf.Lists.{length-take-le}
 use Rattle.memory.proofs.recorder.Recorder.len.Needs as need
 

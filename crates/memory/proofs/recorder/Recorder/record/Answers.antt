@@ -1,8 +1,7 @@
 -- One more entry at the end, which the rules allow, keeps the log legal.
-use mathlib.Core.Path.{_≡_, refl}
-use Prim.Native.Nat.{_<_}
+use mathlib.Core.Path.{refl}
 use native.Mathlib.Omega.{arith}
-use lib.ListN.{length, take, length-set}
+use lib.ListN.{take, length-set}
 use Rattle.std.proofs.shelf.Lists.{take-more-set}
 use Rattle.sched.specs.House.{empty}
 use Rattle.memory.proofs.Runs.{legal-push}

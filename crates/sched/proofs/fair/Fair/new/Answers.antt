@@ -1,6 +1,6 @@
 -- An array of equal positions, none of which stands for a task.
 use mathlib.Core.Path.{_∙_, ap}
-use Rattle.sched.proofs.Standing.{fairly-new}
+use Rattle.sched.proofs.positions.Standing.{fairly-new}
 use Rattle.sched.proofs.fair.Fair.new.Needs as need
 
 pub returns : need.returns

@@ -1,6 +1,5 @@
 -- Recorded is a tick that may be, and the log comes to the house after it.
-use mathlib.Core.Path.{_≡_, ap, _∙_}
-use mathlib.Core.List.{List}
+use mathlib.Core.Path.{ap, _∙_}
 use native.Mathlib.Omega.{arith}
 use Rattle.sched.specs.House.{empty}
 use Rattle.memory.specs.declared.entry.Entry.the-variants.{Ran}

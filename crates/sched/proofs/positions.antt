@@ -1,0 +1,5 @@
+pub mod Beginning
+pub mod Joining
+pub mod Lowering
+pub mod Passing
+pub mod Standing
