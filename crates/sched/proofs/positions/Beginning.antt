@@ -29,7 +29,7 @@ use Rattle.sched.proofs.Bounded.{some-from, none-from, first-unique}
 use Rattle.sched.proofs.positions.Joining.{exact-less, joined-behind, joined-stays}
 use Rattle.sched.proofs.positions.Standing.{stand-set}
 use Rattle.sched.proofs.model.Positions.{PositionsOf, fair-heavy, wants-joined}
-use Rattle.sched.proofs.model.Quotas.{runner-opened}
+use Rattle.sched.proofs.model.Ticks.{runner-opened}
 
 -- a further place changes no other
 up-to-other : {Y : Type 0} (f g : ℕ → Y) (k i : ℕ) → (i ≡ k → ⊥) → upTo (k + 1) f g i ≡ upTo k f g i

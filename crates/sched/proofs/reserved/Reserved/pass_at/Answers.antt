@@ -21,9 +21,9 @@ returns c =
           let P : Tasks → Type 0 = λ t. Reads placeOf slot.Free (t .slots) (put (c .args .i .index) (freed (passed (c .args .mine) (w (c .args .i .index))) (p (c .args .i .index))) p) in
           elim (c .if-not-is-open .came) [
             | then-not-is-open v ↦ subst P (sym (v .tasks-is)) (subst (λ x. Reads placeOf slot.Free (v .release .last .self .slots) (put (c .args .i .index) (freed x (p (c .args .i .index))) p))
-              (sym (shut-told (c .pass-window .result) (sym (c .is-open .ensures) ∙ v .if-not-is-open .taken)) ∙ told w windows) (v .release .ensures .slots p slots))
+                (sym (shut-told (c .pass-window .result) (sym (c .is-open .ensures) ∙ v .if-not-is-open .taken)) ∙ told w windows) (v .release .ensures .slots p slots))
             | else-not-is-open v ↦ subst P (sym (v .tasks-is)) (reads-kept placeOf slot.Free (c .args .i .index) (freed (passed (c .args .mine) (w (c .args .i .index))) (p (c .args .i .index)))
-              (ap (λ x. freed x (p (c .args .i .index))) (sym (told w windows)) ∙ open-keeps (c .pass-window .result) (p (c .args .i .index)) (sym (c .is-open .ensures) ∙ v .if-not-is-open .left)) slots)
+                (ap (λ x. freed x (p (c .args .i .index))) (sym (told w windows)) ∙ open-keeps (c .pass-window .result) (p (c .args .i .index)) (sym (c .is-open .ensures) ∙ v .if-not-is-open .left)) slots)
           ];
       awake = elim (c .if-not-is-open .came) [
         | then-not-is-open v ↦ ap (λ (t : Tasks). t .awake) (v .tasks-is) ∙ v .release .ensures .awake
