@@ -30,8 +30,8 @@ pub fn admits() -> u8
     0
 }
 
-// Calls and their answers, from an empty house on.
-pub fn scenes_play() -> u8
+// The scenes that docs/RULES.md marks with a star: calls and their answers, from an empty house on.
+pub fn starred() -> u8
     ensures { λ _. ⌜ ScenesPlay ⌝ }
 {
     0
