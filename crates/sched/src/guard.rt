@@ -3,9 +3,7 @@ ghost use mathlib.Core.Path.{_≡_};
 ghost use mathlib.Core.Bool.{true};
 ghost use denote.Ref.{name};
 ghost use Rattle.std.specs.Options.{Cases as BySome};
-ghost use Rattle.sched.specs.House.{House};
-ghost use Rattle.sched.specs.Stores.{Holds};
-ghost use Rattle.sched.specs.Held.{canTake, Ready, Took, Gave, GaveBoth, Let, concerns};
+ghost use Rattle.sched.specs.Held.{Ready, Took, Gave, GaveBoth, Let};
 use crate::Answer;
 use crate::Call;
 use crate::Scheduler;
@@ -25,38 +23,6 @@ pub struct Further<'a> {
     task: TaskId,
     outer: LockId,
     lock: LockId,
-}
-
-fn is_of(c: Call, i: TaskId) -> bool
-    ensures { λ r. ⌜ r ≡ concerns (i .index) c ⌝ }
-{
-    match c {
-        Call::Make(_) => false,
-        Call::End(j) => j == i.number(),
-        Call::Wake(j) => j == i.number(),
-        Call::Sleep(j) => j == i.number(),
-        Call::Lock(j, _) => j == i.number(),
-        Call::Unlock(j, _) => j == i.number(),
-    }
-}
-
-impl Scheduler {
-    // Whether the lock is free, and the task there, awake and waiting for nothing.
-    pub fn can_take(&self, i: TaskId, m: LockId) -> bool
-        ensures value { λ r. ⌜ ((h : House) → Holds (now (self .entry)) h → r ≡ canTake h (i .index) (m .index)) ⌝ }
-        ensures ready { λ r. ⌜ (r ≡ true → Ready (now (self .entry)) (i .index) (m .index)) ⌝ }
-    {
-        if !self.tasks.slot(i).is_task() {
-            return false;
-        }
-        if self.locks.is_waiting(i) {
-            return false;
-        }
-        if !self.tasks.is_awake(i) {
-            return false;
-        }
-        self.locks.owner(m).is_none()
-    }
 }
 
 impl<'a> Guard<'a> {
@@ -88,7 +54,7 @@ impl<'a> Guard<'a> {
         ensures ids { λ _. ⌜ now (self .exit) .task ≡ now (self .entry) .task ⌝ ∗ ⌜ now (self .exit) .lock ≡ now (self .entry) .lock ⌝ }
         ensures answered { λ r. ⌜ BySome r (now (now (self .exit) .scheduler) ≡ now (now (self .entry) .scheduler)) (λ a. Let (now (now (self .entry) .scheduler)) (now (now (self .exit) .scheduler)) (now (self .entry) .task .index) c a) ⌝ }
     {
-        if is_of(c, self.task) {
+        if c.concerns(self.task) {
             return None;
         }
         Some(self.scheduler.call(c))
