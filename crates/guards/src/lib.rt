@@ -25,11 +25,10 @@ pub fn both(scheduler: &mut Scheduler, i: TaskId) -> bool
         return false;
     }
     let outer = Guard::take(scheduler, i, five);
-    if !outer.can_take(six) {
+    if !outer.scheduler.can_take(i, six) {
         return false;
     }
-    let inner = outer.further(six);
-    let _outer = inner.back();
+    let _inner = Guard::take(outer.scheduler, i, six);
     true
 }
 
