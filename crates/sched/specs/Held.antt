@@ -29,11 +29,19 @@ pub record Held (h : House) (i m : ℕ) : Type 0 where
 abbrev pub Keeps : House → House → ℕ → Type 0
 Keeps h g i = (n : ℕ) → Held h i n → Held g i n
 
+-- the lock was free and is the task's, which holds still what it held; rows are as they were
+pub record Taken (h g : House) (i m : ℕ) : Type 0 where
+  pub free : h .owner m ≡ 0
+  pub held : Held g i m
+  pub keeps : Keeps h g i
+  pub rows : g .row ≡ h .row
+
 -- the lock is the next one's in its row, or free if there is none; the task's other locks stay its own
 pub record GivenBack (h g : House) (i m : ℕ) : Type 0 where
   pub next : g .owner m ≡ firstOf (h .row m)
   pub others : (n : ℕ) → (n ≡ m → ⊥) → g .owner n ≡ h .owner n
   pub rest : (n : ℕ) → (n ≡ m → ⊥) → Held h i n → Held g i n
+  pub rows : (n : ℕ) → (n ≡ m → ⊥) → g .row n ≡ h .row n
 
 -- a call that the task itself makes, or that is about it
 abbrev pub concerns : ℕ → Call → Bool
@@ -47,18 +55,12 @@ concerns i (Unlock j m) = eqb j i
 -- THE SCHEDULER, FROM s TO t. The lock that was free is the task's.
 abbrev pub Took : (s t : Scheduler) (i m : ℕ) → Type 0
 Took s t i m =
-    (h : House) → Holds s h → Holds t (calls (Lock i m) h .house) × Held (calls (Lock i m) h .house) i m × Keeps h (calls (Lock i m) h .house) i
+    (h : House) → Holds s h → Holds t (calls (Lock i m) h .house) × Taken h (calls (Lock i m) h .house) i m
 
 -- The lock that the task had is given back.
 abbrev pub Gave : (s t : Scheduler) (i m : ℕ) → Type 0
 Gave s t i m =
     (h : House) → Holds s h → Held h i m → Holds t (calls (Unlock i m) h .house) × GivenBack h (calls (Unlock i m) h .house) i m
-
--- Two locks that it had are given back, n first.
-abbrev pub GaveBoth : (s t : Scheduler) (i n m : ℕ) → Type 0
-GaveBoth s t i n m =
-    (h : House) → Holds s h → Held h i n → Held h i m → (m ≡ n → ⊥) →
-    Holds t (calls (Unlock i m) (calls (Unlock i n) h .house) .house) × GivenBack h (calls (Unlock i n) h .house) i n × GivenBack (calls (Unlock i n) h .house) (calls (Unlock i m) (calls (Unlock i n) h .house) .house) i m
 
 -- A call of others: what the task held it holds still.
 abbrev pub Let : (s t : Scheduler) (i : ℕ) → Call → Answer → Type 0

@@ -3,60 +3,19 @@ ghost use mathlib.Core.Path.{_≡_};
 ghost use mathlib.Core.Bool.{true};
 ghost use denote.Ref.{name};
 ghost use Rattle.std.specs.Options.{Cases as BySome};
-ghost use Rattle.sched.specs.House.{House};
-ghost use Rattle.sched.specs.Stores.{Holds};
-ghost use Rattle.sched.specs.Held.{canTake, Ready, Took, Gave, GaveBoth, Let, concerns};
+ghost use Rattle.sched.specs.Held.{Ready, Took, Gave, Let};
 use crate::Answer;
 use crate::Call;
 use crate::Scheduler;
 use quantities::ids::LockId;
 use quantities::ids::TaskId;
 
-// While it lives its task can't come to wait, since nothing here lets it ask for a lock that isn't free: so it can always give this one back.
+// While it lives its task can't come to wait by way of it, since it lets nothing through that concerns the task: so it can always give the lock back.
+// A further lock of the task is taken under it, where it is free, by a guard over the same scheduler, which is lent for that: hence `pub`.
 pub struct Guard<'a> {
-    scheduler: &'a mut Scheduler,
+    pub scheduler: &'a mut Scheduler,
     task: TaskId,
     lock: LockId,
-}
-
-// A further lock of the same task. It has taken in the guard of the outer one, and so is given back before it.
-pub struct Further<'a> {
-    scheduler: &'a mut Scheduler,
-    task: TaskId,
-    outer: LockId,
-    lock: LockId,
-}
-
-fn is_of(c: Call, i: TaskId) -> bool
-    ensures { λ r. ⌜ r ≡ concerns (i .index) c ⌝ }
-{
-    match c {
-        Call::Make(_) => false,
-        Call::End(j) => j == i.number(),
-        Call::Wake(j) => j == i.number(),
-        Call::Sleep(j) => j == i.number(),
-        Call::Lock(j, _) => j == i.number(),
-        Call::Unlock(j, _) => j == i.number(),
-    }
-}
-
-impl Scheduler {
-    // Whether the lock is free, and the task there, awake and waiting for nothing.
-    pub fn can_take(&self, i: TaskId, m: LockId) -> bool
-        ensures value { λ r. ⌜ ((h : House) → Holds (now (self .entry)) h → r ≡ canTake h (i .index) (m .index)) ⌝ }
-        ensures ready { λ r. ⌜ (r ≡ true → Ready (now (self .entry)) (i .index) (m .index)) ⌝ }
-    {
-        if !self.tasks.slot(i).is_task() {
-            return false;
-        }
-        if self.locks.is_waiting(i) {
-            return false;
-        }
-        if !self.tasks.is_awake(i) {
-            return false;
-        }
-        self.locks.owner(m).is_none()
-    }
 }
 
 impl<'a> Guard<'a> {
@@ -88,31 +47,10 @@ impl<'a> Guard<'a> {
         ensures ids { λ _. ⌜ now (self .exit) .task ≡ now (self .entry) .task ⌝ ∗ ⌜ now (self .exit) .lock ≡ now (self .entry) .lock ⌝ }
         ensures answered { λ r. ⌜ BySome r (now (now (self .exit) .scheduler) ≡ now (now (self .entry) .scheduler)) (λ a. Let (now (now (self .entry) .scheduler)) (now (now (self .exit) .scheduler)) (now (self .entry) .task .index) c a) ⌝ }
     {
-        if is_of(c, self.task) {
+        if c.concerns(self.task) {
             return None;
         }
         Some(self.scheduler.call(c))
-    }
-
-    // A further lock, which has to be free too.
-    pub fn further(self, m: LockId) -> Further<'a>
-        requires { ⌜ Ready (now (self .scheduler)) (self .task .index) (m .index) ⌝ }
-        ensures lent { λ r. ⌜ name (r .scheduler) ≡ name (self .entry .scheduler) ⌝ }
-        ensures ids { λ r. ⌜ r .task ≡ self .entry .task ⌝ ∗ ⌜ r .outer ≡ self .entry .lock ⌝ ∗ ⌜ r .lock ≡ m ⌝ }
-        ensures taken { λ r. ⌜ Took (now (self .entry .scheduler)) (now (r .scheduler)) (self .entry .task .index) (m .index) ⌝ }
-    {
-        let Guard {
-            scheduler,
-            task,
-            lock,
-        } = self;
-        let _done = scheduler.lock(task.number(), m.index() as u32);
-        Further {
-            scheduler,
-            task,
-            outer: lock,
-            lock: m,
-        }
     }
 }
 
@@ -126,46 +64,6 @@ impl Drop for Guard<'_> {
         let Guard {
             scheduler: _,
             task: _,
-            lock: _,
-        } = self;
-    }
-}
-
-impl<'a> Further<'a> {
-    // The further lock is given back, and the outer one still held.
-    pub fn back(self) -> Guard<'a>
-        ensures lent { λ r. ⌜ name (r .scheduler) ≡ name (self .entry .scheduler) ⌝ }
-        ensures ids { λ r. ⌜ r .task ≡ self .entry .task ⌝ ∗ ⌜ r .lock ≡ self .entry .outer ⌝ }
-        ensures given { λ r. ⌜ Gave (now (self .entry .scheduler)) (now (r .scheduler)) (self .entry .task .index) (self .entry .lock .index) ⌝ }
-    {
-        let Further {
-            scheduler,
-            task,
-            outer,
-            lock,
-        } = self;
-        let _done = scheduler.unlock(task.number(), lock.index() as u32);
-        Guard {
-            scheduler,
-            task,
-            lock: outer,
-        }
-    }
-}
-
-impl Drop for Further<'_> {
-    fn drop(self)
-        ensures given { λ _. ⌜ GaveBoth (now (self .entry .scheduler)) (now (self .exit .0)) (self .entry .task .index) (self .entry .lock .index) (self .entry .outer .index) ⌝ }
-    {
-        let i = self.task;
-        let n = self.lock;
-        let m = self.outer;
-        let _done = self.scheduler.unlock(i.number(), n.index() as u32);
-        let _then = self.scheduler.unlock(i.number(), m.index() as u32);
-        let Further {
-            scheduler: _,
-            task: _,
-            outer: _,
             lock: _,
         } = self;
     }

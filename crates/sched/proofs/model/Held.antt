@@ -1,16 +1,17 @@
 -- A task that holds a lock and waits for nothing: it took the lock where it was free, others can't take it away, and it can give it back.
 use mathlib.Core.Path.{_≡_, refl, sym, ap, _∙_, subst}
 use mathlib.Core.Bool.{Bool, true, false, cond, not, _&&_, _||_}
-use mathlib.Core.List.{List, [], _∷_}
+use mathlib.Core.List.{List, [], _∷_, _++_}
 use Prim.Native.Nat.{ℕ, suc, _-_, _<_}
 use native.Mathlib.Omega.{arith}
 use lib.Dec.{eqb, ltb, leb}
-use Rattle.std.proofs.shelf.Tests.{and-left, and-right, and-from, eq-eqb, eqb-true, eqb-false, not-from-true, or-from, lt-leb, cond-both, false≢true}
+use Rattle.std.proofs.shelf.Tests.{and-left, and-right, and-from, eq-eqb, eqb-true, eqb-false, not-from-true, or-from, lt-leb, cond-both, false≢true, true≢false}
 use Rattle.sched.specs.declared.Call.{Call}
 use Rattle.sched.specs.declared.Call.the-variants.{Make, End, Wake, Sleep, Lock, Unlock}
-use Rattle.sched.specs.declared.Answer.the-variants.{Done}
-use Rattle.sched.specs.House.{House, Place, Nobody, A, Out, out, put, isTask, isA, firstOf, calls}
-use Rattle.sched.specs.Held.{canTake, Held, Keeps, GivenBack, concerns}
+use Rattle.sched.specs.declared.Answer.the-variants.{Done, No}
+use Rattle.sched.specs.House.{House, Place, Nobody, A, Out, out, no, put, isTask, isA, firstOf, restOf, calls}
+use Rattle.sched.specs.Held.{canTake, Held, Keeps, Taken, GivenBack, concerns}
+use Rattle.sched.specs.Refusals.{isNo}
 use Rattle.sched.proofs.Puts.{put-at, put-else, put-both}
 use Rattle.sched.proofs.model.CallWays.{EachWay, each-way, takes}
 use Rattle.sched.proofs.model.Outcomes.{gives, lock-takes, unlock-done}
@@ -49,17 +50,19 @@ module _ (h : House) (i m : ℕ) (l : m < 64) where
       let p = can-take-parts h i m e in
       lock-takes h i m (p .0) (lt-leb 64 m l) (or-from _ _ (not-from-true _ (eq-eqb _ _ (p .1))) (not-from-true _ (p .2))) (eq-eqb _ _ (p .3))
 
-  pub takes-held : canTake h i m ≡ true → Held (takes i m h) i m
-  takes-held e = let p = can-take-parts h i m e in record { task = p .0; runs = p .1; owns = put-at m (suc i) (h .owner) }
-
   -- a lock that it holds is given back
   pub held-gives : Held h i m → calls (Unlock i m) h ≡ out Done (gives m h)
   held-gives k = unlock-done h i m (k .task) (lt-leb 64 m l) (not-from-true _ (eq-eqb _ _ (k .runs))) (eq-eqb _ _ (k .owns))
 
--- what it takes beside leaves it what it holds
-pub takes-keeps : (h : House) (i m : ℕ) → Keeps h (takes i m h) i
-takes-keeps h i m n k =
-    record { task = k .task; runs = k .runs; owns = put-both m (suc i) (h .owner) n (λ o. o ≡ suc i) (λ _. refl) (λ _. k .owns) }
+pub takes-taken : (h : House) (i m : ℕ) → canTake h i m ≡ true → Taken h (takes i m h) i m
+takes-taken h i m e =
+    let p = can-take-parts h i m e in
+    record {
+      free = p .3;
+      held = record { task = p .0; runs = p .1; owns = put-at m (suc i) (h .owner) };
+      keeps = λ n k. record { task = k .task; runs = k .runs; owns = put-both m (suc i) (h .owner) n (λ o. o ≡ suc i) (λ _. refl) (λ _. k .owns) };
+      rows = refl;
+    }
 
 -- whoever is handed a lock waits no more, and nobody else's waiting changes
 gives-runs : (h : House) (i m : ℕ) → h .waits i ≡ 0 → gives m h .waits i ≡ 0
@@ -72,6 +75,7 @@ gives-back h i m =
       next = put-at m (firstOf (h .row m)) (h .owner);
       others = λ n apart. put-else m (firstOf (h .row m)) (h .owner) n apart;
       rest = λ n apart k. record { task = k .task; runs = gives-runs h i m (k .runs); owns = put-else m (firstOf (h .row m)) (h .owner) n apart ∙ k .owns };
+      rows = λ n apart. put-else m (restOf (h .row m)) (h .row) n apart;
     }
 
 -- CALLS OF OTHERS
@@ -123,3 +127,40 @@ module _ (h : House) (i n : ℕ) (k : Held h i n) where
 -- a call that doesn't concern the task leaves it what it holds
 pub others-keep : (h : House) (i : ℕ) (c : Call) → concerns i c ≡ false → Keeps h (calls c h .house) i
 others-keep h i c other n k = each-way h (Still h i n k) (still-held h i n k) c other
+
+-- A lock that isn't free: whoever is told that its asking is done stands last in the row.
+abbrev Queued : House → Call → Out → Type 0
+Queued h (Make k) o = Unit {0}
+Queued h (End j) o = Unit {0}
+Queued h (Wake j) o = Unit {0}
+Queued h (Sleep j) o = Unit {0}
+Queued h (Lock j m) o = o .answer ≡ Done → (h .owner m ≡ 0 → ⊥) → o .house .row m ≡ h .row m ++ (j ∷ [])
+Queued h (Unlock j m) o = Unit {0}
+
+not-done : (n : ℕ) {X : Type 0} → No n ≡ Done → X
+not-done n e = absurd (true≢false (ap isNo e))
+
+pub asks-queues : (h : House) (j m : ℕ) → calls (Lock j m) h .answer ≡ Done → (h .owner m ≡ 0 → ⊥) → calls (Lock j m) h .house .row m ≡ h .row m ++ (j ∷ [])
+asks-queues h j m = each-way h (Queued h) ways (Lock j m)
+  where
+    refuse : (c : Call) (n : ℕ) → Queued h c (no n h)
+    refuse (Make k) n = tt
+    refuse (End i) n = tt
+    refuse (Wake i) n = tt
+    refuse (Sleep i) n = tt
+    refuse (Lock i p) n = λ e _. not-done n e
+    refuse (Unlock i p) n = tt
+
+    ways : EachWay h (Queued h)
+    ways =
+        record {
+          refused = λ {c} n. refuse c n;
+          make = λ _ _ _ _ _ _ _. tt;
+          end = λ _ _ _ _ _. tt;
+          wake = λ _ _ _. tt;
+          sleep = λ _ _ _ _. tt;
+          take = λ i p _ _ _ _ _ free _ owned. absurd (owned free);
+          queue = λ i p _ _ _ _ _ _ _ _ _. put-at p (h .row p ++ (i ∷ [])) (h .row);
+          free = λ _ _ _ _ _ _ _ _. tt;
+          pass = λ _ _ _ _ _ _ _ _ _ _. tt;
+        }

@@ -7,5 +7,5 @@ returns c =
     record {
       lent = refl;
       ids = (refl, refl);
-      answered = let-through (c .args .self .now .scheduler .now) (c .call .last .self) (c .args .self .now .task .index) (c .args .c) (c .call .result) (sym (c .is-of .ensures) ∙ c .if-is-of .left) (c .call .ensures .answered);
+      answered = let-through (c .args .self .now .scheduler .now) (c .call .last .self) (c .args .self .now .task .index) (c .args .c) (c .call .result) (sym (c .concerns .ensures) ∙ c .if-concerns .left) (c .call .ensures .answered);
     }
