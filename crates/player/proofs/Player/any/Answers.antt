@@ -11,7 +11,7 @@ loop-k-holds c = (λ e rest at. choosing-none (c .args .seed) (c .new-generator 
 pub loop-k-again : need.loop-k-again
 loop-k-again c = (
   λ e rest at.
-  c .go .ensures .goes (c .args .seed) (c .loop-k .-k) (c .loop-k .generator .state) (c .next-step-chosen .last .self .state) e rest (c .loop-k .inv .0 e rest at) (c .next-step-chosen .ensures),
+      c .go .ensures .goes (c .args .seed) (c .loop-k .-k) (c .loop-k .generator .state) (c .next-step-chosen .last .self .state) e rest (c .loop-k .inv .0 e rest at) (c .next-step-chosen .ensures),
   c .go .ensures .silent ∙ c .loop-k .inv .1,
 )
 

@@ -15,6 +15,6 @@ pub returns : need.returns
 returns g c =
     λ ok before script so.
     played-last (g .S·Sink .took) (c .args .self .now) (c .end-line .last .self)
-    (record { theatre = c .end-line .last .self .theatre; printer = c .flush .last .self; line = c .end-line .last .self .line; lines = c .end-line .last .self .lines }) (c .args .out .now) (c .end-line .last .out) (c .flush .last .out) before
+    (record { theatre = c .end-line .last .self .theatre; printer = c .flush-2 .last .self; line = c .end-line .last .self .line; lines = c .end-line .last .self .lines }) (c .args .out .now) (c .end-line .last .out) (c .flush-2 .last .out) before
     script so (sym (c .is-begun-begun .ensures (so .rest) (so .at .line)) ∙ c .if-not-begun .left)
-    (c .in-Continue-end-line .ensures tt refl (so .evening) (so .rest) (before ++ so .text) (so .at) (so .printed)) (c .flush .ensures .empty) (c .flush .ensures .printed ok)
+    (c .in-Continue-end-line .ensures tt refl (so .evening) (so .rest) (before ++ so .text) (so .at) (so .printed)) (c .flush-2 .ensures .empty) (c .flush-2 .ensures .printed ok)

@@ -11,7 +11,7 @@ returns-in-Calls c =
     record {
       goes =
           λ seed n x y e rest so draws.
-          choosing-call seed n x y e (c .args .self .now) _ rest so (c .in-Calls .call) (c .call--answer .result) (subst (λ (k : Next). drawn k y ≡ step x) (c .in-Calls .is) draws) (c .call--answer .ensures .answered) (c .call--answer .ensures .had) refl refl;
+          choosing-call seed n x y e (c .args .self .now) _ rest so (c .in-Calls .call) (c .call-answer .result) (subst (λ (k : Next). drawn k y ≡ step x) (c .in-Calls .is) draws) (c .call-answer .ensures .answered) (c .call-answer .ensures .had) refl refl;
       silent = refl;
     }
 
@@ -20,7 +20,7 @@ returns-in-Tick c =
     record {
       goes =
           λ seed n x y e rest so draws.
-          choosing-tick seed n x y e (c .args .self .now) _ rest so (c .tick--tick .result .0) (c .tick--tick .result .1) (subst (λ (k : Next). drawn k y ≡ step x) (c .in-Tick .is) draws) (c .tick--tick .ensures .may) (c .tick--tick .ensures .had) refl refl;
+          choosing-tick seed n x y e (c .args .self .now) _ rest so (c .tick-tick .result .0) (c .tick-tick .result .1) (subst (λ (k : Next). drawn k y ≡ step x) (c .in-Tick .is) draws) (c .tick-tick .ensures .may) (c .tick-tick .ensures .had) refl refl;
       silent = refl;
     }
 
