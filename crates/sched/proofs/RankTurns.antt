@@ -39,9 +39,9 @@ module _ (h : House) (once : OnceInTurn (h .place) (h .turn)) where
   rank-none r none i =
       ⊎-elim
       (λ e.
-          let fixed = and-parts (isFixed (h .place i)) (eqb (rankOf (h .place i)) r) (and-parts (isFixed (h .place i) && eqb (rankOf (h .place i)) r) (wants h i) e .0) .0 in
-          let one : times i (h .turn) ≡ 1 = rw (fixed-task (h .place i) fixed) at (once i) in
-          turn-none (rankWants h r) (h .turn) i none (omega arith))
+      let fixed = and-parts (isFixed (h .place i)) (eqb (rankOf (h .place i)) r) (and-parts (isFixed (h .place i) && eqb (rankOf (h .place i)) r) (wants h i) e .0) .0 in
+      let one : times i (h .turn) ≡ 1 = rw (fixed-task (h .place i) fixed) at (once i) in
+      turn-none (rankWants h r) (h .turn) i none (omega arith))
       (λ e. e) (cases-bool (rankWants h r i))
 
   pub first-in-rank : (k : ℕ) (t : Option TaskId) → k < 16 → isSome t ≡ true → ownerOf t ≡ inTurn (rankWants h k) (h .turn) → ((r : ℕ) → r < k → inTurn (rankWants h r) (h .turn) ≡ 0) →
@@ -62,10 +62,10 @@ module _ (h : House) (once : OnceInTurn (h .place) (h .turn)) where
       none-from (fixedWants h) 64
       (λ i l. ⊎-elim
       (λ e.
-          let p = and-parts (isFixed (h .place i)) (wants h i) e in
-          let low : rankOf (h .place i) < 16 = rw (slots .at i) at (rank-below (getD (tasks .slots) i slot.Free) (ap isFixed (slots .at i) ∙ p .0)) in
-          let wants-it = and-from (isFixed (h .place i) && eqb (rankOf (h .place i)) (rankOf (h .place i))) (wants h i) (and-from (isFixed (h .place i)) (eqb (rankOf (h .place i)) (rankOf (h .place i))) (p .0) (eq-eqb (rankOf (h .place i)) (rankOf (h .place i)) refl)) (p .1) in
-          absurd (both-ways (rankWants h (rankOf (h .place i)) i) (rank-none (rankOf (h .place i)) (none (rankOf (h .place i)) low) i) wants-it))
+      let p = and-parts (isFixed (h .place i)) (wants h i) e in
+      let low : rankOf (h .place i) < 16 = rw (slots .at i) at (rank-below (getD (tasks .slots) i slot.Free) (ap isFixed (slots .at i) ∙ p .0)) in
+      let wants-it = and-from (isFixed (h .place i) && eqb (rankOf (h .place i)) (rankOf (h .place i))) (wants h i) (and-from (isFixed (h .place i)) (eqb (rankOf (h .place i)) (rankOf (h .place i))) (p .0) (eq-eqb (rankOf (h .place i)) (rankOf (h .place i)) refl)) (p .1) in
+      absurd (both-ways (rankWants h (rankOf (h .place i)) i) (rank-none (rankOf (h .place i)) (none (rankOf (h .place i)) low) i) wants-it))
       (λ e. e) (cases-bool (fixedWants h i)))
 
 pub owner-none : (t : Option TaskId) → isSome t ≡ false → ownerOf t ≡ 0

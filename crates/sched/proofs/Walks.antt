@@ -62,8 +62,8 @@ few-members zero [] below once = omega arith
 few-members zero (j ∷ js) below once = absurd (omega (arith, below j (inl refl)))
 few-members (suc n) l below once =
     let less = few-members n (member.without n l)
-        (λ i m. let b = below i (member-without n i l m) in elim (cases-eq i n) [ inl e ↦ absurd (not-without n l (subst (λ k. member.Member k (member.without n l)) e m)) | inr d ↦ omega arith ])
-        (λ i. let o = once i in let t = times-without n i l in omega arith) in
+    (λ i m. let b = below i (member-without n i l m) in elim (cases-eq i n) [ inl e ↦ absurd (not-without n l (subst (λ k. member.Member k (member.without n l)) e m)) | inr d ↦ omega arith ])
+    (λ i. let o = once i in let t = times-without n i l in omega arith) in
     let all = length-without n l in
     let o = once n in
     omega arith

@@ -149,6 +149,30 @@ pub fn scheduler_is_small() -> bool
     std::mem::size_of::<Scheduler>() <= 65536
 }
 
+// THE MAIN PROMISE. Whatever is called, tick after tick.
+pub fn hours<W: World>(w: &mut W, many: u64)
+    requires begins { ⌜ house (now w) ≡ empty ⌝ }
+{
+    let mut s = Scheduler::new();
+    let mut n: u64 = 0;
+    while n < many {
+        n += 1;
+        match w.next() {
+            Next::Calls(c) => {
+                let a = s.call(c);
+                w.told(c, a);
+            }
+            Next::Tick => {
+                let (t, j) = s.pick();
+                w.runs(t, j);
+            }
+            Next::Over => {
+                return;
+            }
+        }
+    }
+}
+
 // What is promised beside, each a theorem that a contract names.
 pub fn no_rings() -> u8
     ensures { λ _. ⌜ NoRings ⌝ }

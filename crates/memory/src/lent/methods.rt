@@ -1,11 +1,15 @@
-// Making a recorder over lent slices, and writing its log.
+// Making a recorder over lent slices; what it hands out and writes, in terms of the slices.
 use crate::entry::Entry;
 use crate::entry::Step;
 use crate::lent::LentRecorder;
+use sched::Answer;
+use sched::Call;
+use sched::Next;
 ghost use mathlib.Core.Path.{_≡_};
-ghost use Prim.Native.Nat.{_+_, _<_};
-ghost use lib.ListN.{length, set};
+ghost use Prim.Native.Nat.{_<_};
 ghost use denote.Ref.{name};
+ghost use Rattle.memory.specs.Recorded.{roomIn, Wrote};
+ghost use Rattle.memory.specs.Played.{Asks};
 
 impl<'a> LentRecorder<'a> {
     // To play this script into this log, from its start.
@@ -29,13 +33,41 @@ impl<'a> LentRecorder<'a> {
         self.used
     }
 
+    // The script's next step, if there is one and room for its entry.
+    pub fn next(&mut self) -> Next
+        ensures same { λ _. ⌜ now (self .exit) ≡ now (self .entry) ⌝ }
+        ensures asks { λ r. ⌜ Asks (now (now (self .entry) .script)) (now (now (self .entry) .log)) (now (self .entry) .used) r ⌝ }
+    {
+        if self.used >= self.script.len() || self.used >= self.log.len() {
+            return Next::Over;
+        }
+        let step = self.script[self.used];
+        match step {
+            Step::Tick => Next::Tick,
+            Step::Calls(c) => Next::Calls(c),
+        }
+    }
+
+    // A call and its answer.
+    pub(crate) fn told(&mut self, c: Call, a: Answer)
+        requires { ⌜ 0 < roomIn (now self) ⌝ }
+        ensures { λ _. ⌜ Wrote (now (self .entry)) (now (self .exit)) (Entry.Called c a) ⌝ }
+    {
+        self.record(Entry::Called(c, a));
+    }
+
+    // Whose a tick was, and who ran in it.
+    pub(crate) fn runs(&mut self, whose: Option<u32>, runs: u32)
+        requires { ⌜ 0 < roomIn (now self) ⌝ }
+        ensures { λ _. ⌜ Wrote (now (self .entry)) (now (self .exit)) (Entry.Ran whose runs) ⌝ }
+    {
+        self.record(Entry::Ran(whose, runs));
+    }
+
     // One more entry.
-    pub(super) fn record(&mut self, entry: Entry)
-        requires { ⌜ now self .used < length (now (now self .log)) ⌝ }
-        ensures log { λ _. ⌜ now (now (self .exit) .log) ≡ set (now (now (self .entry) .log)) (now (self .entry) .used) entry ⌝ }
-        ensures used { λ _. ⌜ now (self .exit) .used ≡ now (self .entry) .used + 1 ⌝ }
-        ensures script { λ _. ⌜ now (now (self .exit) .script) ≡ now (now (self .entry) .script) ⌝ }
-        ensures lender { λ _. ⌜ name (now (self .exit) .log) ≡ name (now (self .entry) .log) ⌝ }
+    fn record(&mut self, entry: Entry)
+        requires { ⌜ 0 < roomIn (now self) ⌝ }
+        ensures { λ _. ⌜ Wrote (now (self .entry)) (now (self .exit)) entry ⌝ }
     {
         self.log[self.used] = entry;
         self.used += 1;

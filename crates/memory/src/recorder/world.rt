@@ -18,7 +18,7 @@ pub impl World for Recorder as RecorderWorld {
     ghost left = { λ w. length (w .log) - w .used };
 
     fn next(&mut self) -> Next {
-        if self.used >= self.steps || self.used >= self.log.len() {
+        if self.used >= self.steps {
             return Next::Over;
         }
         let step = self.script[self.used];

@@ -1,22 +1,13 @@
 -- Recorded is a tick that may be, and the log comes to the house after it.
-use mathlib.Core.Path.{_≡_, ap, _∙_}
-use Prim.Native.Nat.{_<_}
-use native.Mathlib.Omega.{arith}
-use lib.ListN.{length, take, set, length-set}
-use Rattle.std.proofs.shelf.Lists.{take-more-set}
-use Rattle.sched.specs.House.{empty}
+use mathlib.Core.Path.{_∙_}
 use Rattle.memory.specs.declared.entry.Entry.the-variants.{Ran}
-use Rattle.memory.specs.Run.{outcome}
-use Rattle.memory.proofs.Runs.{ran-entered, outcome-push}
+use Rattle.memory.specs.Recorded.{houseOf}
+use Rattle.memory.proofs.Runs.{ran-entered}
+use Rattle.memory.proofs.Written.{written-house, written-room}
 use Rattle.memory.proofs.lent.world.LentRecorderWorld.runs.Needs as need
 
 pub returns : need.returns
-returns c =
-    let before = c .args .self .now .log .now in
-    let used = c .args .self .now .used in
-    let room : used < length before = omega arith in (
-      rw (c .record .ensures .used, c .record .ensures .log)
-          (ap (outcome empty) (take-more-set before used (Ran (c .args .whose) (c .args .runs)) room) ∙ outcome-push empty (take used before) (Ran (c .args .whose) (c .args .runs))
-          ∙ ran-entered (outcome empty (take used before)) (c .args .whose) (c .args .runs)),
-      rw (c .record .ensures .used, c .record .ensures .log) (rw length-set (omega arith)),
-    )
+returns c = (
+  written-house (c .args .self .now) (c .runs .last .self) (Ran (c .args .whose) (c .args .runs)) (c .runs .ensures) (c .pre .0) ∙ ran-entered (houseOf (c .args .self .now)) (c .args .whose) (c .args .runs),
+  written-room (c .args .self .now) (c .runs .last .self) (Ran (c .args .whose) (c .args .runs)) (c .runs .ensures) (c .pre .0),
+)
