@@ -2,7 +2,7 @@
 -- Assumes nothing.
 use mathlib.Core.Bool.{Bool, cond}
 use Prim.Native.Nat.{ℕ}
-use lib.Dec.{eqb, ltb}
+use lib.Dec.{eqb, leb}
 use Rattle.std.specs.declared.option.Option.the-variants.{None, Some}
 use Rattle.sched.specs.declared.Answer.{Answer}
 use Rattle.sched.specs.declared.Answer.the-variants.{Done, Id, No}
@@ -22,15 +22,15 @@ abbrev pub noStep : WireStep
 noStep = record { what = 0; first = 0; second = 0 }
 
 -- there are eight calls, and the tick
-unfoldable pub good : WireStep → Bool
-good w = ltb (w .what) 9
+abbrev pub good : WireStep → Bool
+good w = leb (w .what) 8
 
 unfoldable pub kindOf : (what a b : ℕ) → Kind
 kindOf what a b = cond (eqb what 1) (Reserved a b) (cond (eqb what 2) (Fixed a) (Fair a))
 
 unfoldable pub callOf : (what a b : ℕ) → Call
 callOf what a b =
-    cond (ltb what 4) (Make (kindOf what a b))
+    cond (leb what 3) (Make (kindOf what a b))
     (cond (eqb what 4) (End a) (cond (eqb what 5) (Wake a) (cond (eqb what 6) (Sleep a) (cond (eqb what 7) (Lock a b) (Unlock a b)))))
 
 unfoldable pub stepOf : WireStep → Step

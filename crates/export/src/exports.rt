@@ -13,6 +13,7 @@ use script::page::Stopped;
 use script::player::Player;
 ghost use mathlib.Core.Path.{_≡_};
 ghost use mathlib.Core.Logic.{_⊎_};
+ghost use Prim.Native.Nat.{min};
 ghost use lib.Dec.{T};
 ghost use Rattle.sched.specs.House.{House};
 ghost use Rattle.sched.specs.Stores.{Holds};
@@ -92,16 +93,25 @@ fn first_bad(steps: &[WireStep]) -> usize
 fn record(steps: &[WireStep], log: &mut [WireEntry]) -> usize
     ensures { λ r. ⌜ Kept (now (steps .entry)) (now (log .entry)) (now (log .exit)) r ⌝ }
 {
+    let many = least(steps.len(), log.len());
     let mut s = Scheduler::new();
-    let mut n: usize = 0;
-    while n < steps.len() && n < log.len() {
+    for n in 0..many {
         let wire = steps[n];
-        let step = wire.step();
-        let entry = turn(&mut s, step);
-        log[n] = WireEntry::new(entry);
-        n += 1;
+        let asked = wire.step();
+        let entry = turn(&mut s, asked);
+        let out = WireEntry::new(entry);
+        log[n] = out;
     }
-    n
+    many
+}
+
+fn least(a: usize, b: usize) -> usize
+    ensures { λ r. ⌜ r ≡ min a b ⌝ }
+{
+    if a < b {
+        return a;
+    }
+    b
 }
 
 // One turn of the scheduler: the entry that answers the step.

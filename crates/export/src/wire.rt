@@ -6,7 +6,7 @@ use sched::Call;
 use sched::Kind;
 ghost use mathlib.Core.Path.{_≡_};
 ghost use mathlib.Core.Bool.{true, false};
-ghost use lib.Dec.{eqb, ltb};
+ghost use lib.Dec.{eqb, leb};
 ghost use Rattle.export.specs.Wire.{good, kindOf, callOf, stepOf, entryOf};
 
 // What is asked for: 0 a tick; 1 to 3 make reserved (quota, period), fixed (rank), fair (weight); 4 end, 5 wake and 6 sleep
@@ -119,7 +119,7 @@ impl WireStep {
 
     fn making(kind: Kind) -> WireStep
         ensures says { λ r. ⌜ kindOf (r .what) (r .first) (r .second) ≡ kind ⌝ }
-        ensures makes { λ r. ⌜ ltb (r .what) 4 ≡ true ⌝ }
+        ensures makes { λ r. ⌜ leb (r .what) 3 ≡ true ⌝ }
         ensures calls { λ r. ⌜ eqb (r .what) 0 ≡ false ⌝ }
     {
         match kind {

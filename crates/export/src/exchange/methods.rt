@@ -45,10 +45,12 @@ impl<'a> Exchange<'a> {
     }
 
     // One more entry.
-    pub(crate) fn record(&mut self, entry: Entry) {
-        if self.used < self.log.len() {
-            self.log[self.used] = WireEntry::new(entry);
-            self.used += 1;
-        }
+    pub(crate) fn record(&mut self, entry: Entry)
+        requires { ⌜ 0 < roomIn (now self) ⌝ }
+        ensures { λ _. ⌜ Wrote (now (self .entry)) (now (self .exit)) entry ⌝ }
+    {
+        let wire = WireEntry::new(entry);
+        self.log[self.used] = wire;
+        self.used += 1;
     }
 }
