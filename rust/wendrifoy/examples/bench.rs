@@ -15,7 +15,9 @@ use account::System;
 const ROUNDS: usize = 5;
 
 fn main() {
-    let mut words = std::env::args().skip(1).map(|word| word.parse().expect("a number"));
+    let mut words = std::env::args()
+        .skip(1)
+        .map(|word| word.parse().expect("a number"));
     let steps: u32 = words.next().unwrap_or(1_000_000);
     let seed: u32 = words.next().unwrap_or(1);
     let script = format!("any {seed} {steps}\nhad\n").into_bytes();
@@ -35,8 +37,14 @@ fn main() {
     let [library, account] = best.map(|time| time.as_secs_f64());
     let each = |time: f64| time * 1e9 / f64::from(steps);
     println!("any {seed} {steps}, the best of {ROUNDS} rounds; buffers cleared before each");
-    println!("static library: {library:.3} s, {:.0} ns a step", each(library));
-    println!("plain account:  {account:.3} s, {:.0} ns a step", each(account));
+    println!(
+        "static library: {library:.3} s, {:.0} ns a step",
+        each(library)
+    );
+    println!(
+        "plain account:  {account:.3} s, {:.0} ns a step",
+        each(account)
+    );
     println!("ratio library / account: {:.2}", library / account);
 }
 

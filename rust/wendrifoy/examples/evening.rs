@@ -19,7 +19,10 @@ had
 
 fn main() {
     // the fair task owns the lock that the reserved one waits for, and runs in its ticks
-    print!("{}", String::from_utf8_lossy(&play_to_vec(SCRIPT.as_bytes())));
+    print!(
+        "{}",
+        String::from_utf8_lossy(&play_to_vec(SCRIPT.as_bytes()))
+    );
 
     let mut steps = vec![
         Step::Call(Call::Make(Kind::Fair { weight: 1 })),

@@ -9,9 +9,11 @@ use wendrifoy::{Answer, BadStep, Call, Entry, Kind, NoRoom, RawEntry, RawStep, S
 
 /// Random scripts of all kinds, damaged lines among them.
 fn scripts(seeds: std::ops::Range<u64>) -> impl Iterator<Item = Vec<u8>> {
-    KINDS
-        .into_iter()
-        .flat_map(move |kind| seeds.clone().map(move |seed| Script::random(kind, seed).bytes()))
+    KINDS.into_iter().flat_map(move |kind| {
+        seeds
+            .clone()
+            .map(move |seed| Script::random(kind, seed).bytes())
+    })
 }
 
 /// A call of the account, as one of the wrapper's.
@@ -81,11 +83,14 @@ fn transcript(entries: &[Entry]) -> Vec<u8> {
 /// Whether the entries are those of the steps, in order.
 fn answer_steps(steps: &[Step], entries: &[Entry]) -> bool {
     steps.len() == entries.len()
-        && steps.iter().zip(entries).all(|(step, entry)| match (step, entry) {
-            (Step::Tick, Entry::Ran(..)) => true,
-            (Step::Call(asked), Entry::Called(called, _)) => asked == called,
-            _ => false,
-        })
+        && steps
+            .iter()
+            .zip(entries)
+            .all(|(step, entry)| match (step, entry) {
+                (Step::Tick, Entry::Ran(..)) => true,
+                (Step::Call(asked), Entry::Called(called, _)) => asked == called,
+                _ => false,
+            })
 }
 
 #[test]
@@ -94,7 +99,13 @@ fn scripts_are_played_as_the_rules_say() {
     for script in scripts(0..40) {
         total += check(&script, &play_to_vec(&script)).unwrap_or_else(|what| panic!("{what}"));
     }
-    for count in [total.done, total.ids, total.unread, total.ticks, total.any_ticks] {
+    for count in [
+        total.done,
+        total.ids,
+        total.unread,
+        total.ticks,
+        total.any_ticks,
+    ] {
         assert!(count > 100, "{total}");
     }
 }
@@ -112,7 +123,15 @@ fn long_scripts_too() {
 
 #[test]
 fn short_and_damaged_scripts_too() {
-    for script in [&b""[..], b"\n", b"had", b"tick 0", b"\0\xff", b"tick 3\r\n", b"wake 0\n\n"] {
+    for script in [
+        &b""[..],
+        b"\n",
+        b"had",
+        b"tick 0",
+        b"\0\xff",
+        b"tick 3\r\n",
+        b"wake 0\n\n",
+    ] {
         check(script, &play_to_vec(script)).unwrap_or_else(|what| panic!("{what}"));
     }
     for script in scripts(200..203) {
@@ -130,7 +149,14 @@ fn the_transcript_has_room_or_not() {
         for room in [0, 1, whole.len() / 2, whole.len().saturating_sub(1)] {
             let mut small = vec![b'#'; room];
             let played = play(&script, &mut small);
-            assert_eq!(played, if room < whole.len() { Err(NoRoom) } else { Ok(whole.len()) });
+            assert_eq!(
+                played,
+                if room < whole.len() {
+                    Err(NoRoom)
+                } else {
+                    Ok(whole.len())
+                }
+            );
         }
         let mut large = vec![b'#'; whole.len() + 100];
         assert_eq!(play(&script, &mut large), Ok(whole.len()));
@@ -162,7 +188,13 @@ fn both_interfaces_make_the_same_choices() {
 
 #[test]
 fn what_is_beyond_the_entries_stays() {
-    let mark = RawEntry { what: 77, first: 1, second: 2, answer: 3, value: 4 };
+    let mark = RawEntry {
+        what: 77,
+        first: 1,
+        second: 2,
+        answer: 3,
+        value: 4,
+    };
     for script in scripts(600..602) {
         let steps: Vec<RawStep> = steps(&script).0.into_iter().map(RawStep::from).collect();
         let mut whole = vec![mark; steps.len() + 3];
@@ -179,7 +211,10 @@ fn what_is_beyond_the_entries_stays() {
 
 #[test]
 fn steps_that_are_none_are_answered() {
-    let mark = RawEntry { what: 77, ..RawEntry::default() };
+    let mark = RawEntry {
+        what: 77,
+        ..RawEntry::default()
+    };
     for bad in [9, 10, 255, 256, u32::MAX] {
         let mut steps = vec![RawStep::default(); 20];
         steps[13].what = bad;
@@ -196,5 +231,8 @@ fn steps_that_are_none_are_answered() {
 
 #[test]
 fn an_empty_system_has_nothing() {
-    assert_eq!(System::default().had().as_bytes(), &play_to_vec(b"had\n")[..3]);
+    assert_eq!(
+        System::default().had().as_bytes(),
+        &play_to_vec(b"had\n")[..3]
+    );
 }
