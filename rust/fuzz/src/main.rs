@@ -1,14 +1,5 @@
 //! Plays random scripts with a program and checks what it prints.
 
-mod draft;
-mod kinds;
-mod malformed;
-mod moves;
-mod options;
-mod random;
-mod shrink;
-mod trial;
-
 use std::io::{self, Write};
 use std::process::ExitCode;
 use std::time::Duration;
@@ -16,8 +7,8 @@ use std::time::Duration;
 use account::stage::{reports_full_output, Patience};
 use account::Tally;
 
-use options::Options;
-use trial::{Program, Script};
+use fuzz::options::Options;
+use fuzz::trial::{Program, Script};
 
 fn main() -> ExitCode {
     let verdict = Options::read(std::env::args().skip(1)).and_then(|options| {
@@ -25,7 +16,7 @@ fn main() -> ExitCode {
             path: options.stage.clone(),
             patience: Patience(Duration::from_secs(options.patience)),
         };
-        fuzz(&options, &program).map_err(|error| error.to_string())
+        try_all(&options, &program).map_err(|error| error.to_string())
     });
     match verdict {
         Ok(true) => ExitCode::SUCCESS,
@@ -38,7 +29,7 @@ fn main() -> ExitCode {
 }
 
 /// Plays scripts until there were enough lines and ticks, or one fails.
-fn fuzz(options: &Options, program: &Program) -> io::Result<bool> {
+fn try_all(options: &Options, program: &Program) -> io::Result<bool> {
     if !reports_full_output(&program.path, program.patience)? {
         println!("found that the exit status is not 1 where the output cannot be written");
         return Ok(false);

@@ -1,0 +1,3 @@
+pub mod Exchanged
+pub mod Kept
+pub mod Wire
