@@ -1,7 +1,7 @@
 -- What a player stands for after a call, a tick, or a line.
 use mathlib.Core.Path.{_≡_, refl, sym, ap, subst, _∙_}
 use mathlib.Core.Bool.{Bool, true, false, cond}
-use mathlib.Core.List.{List, [], _∷_, _++_, append-assoc}
+use mathlib.Core.List.{List, [], _++_, append-assoc}
 use Prim.Native.Nat.{ℕ, _+_, _/_, _%_, _^_}
 use lib.Dec.{ltb, T}
 use Rattle.std.proofs.shelf.Lists.{append-nil}
@@ -21,7 +21,7 @@ use Rattle.script.specs.Text.{answerText, tickText, hadText, badLineText, asLin
 use Rattle.script.specs.Any.{Drawn, drawn, made, moved, step}
 use Rattle.script.specs.Any as any
 use Rattle.player.specs.declared.Player.{Player}
-use Rattle.player.specs.Evening.{Evening, Ticks, noTick, oneTick, Chosen, noneChosen, callChosen, tickChosen, Answered, aCall, someTicks, theCounts, anySteps, noCommand, more, hadAfter, hadTick, called, ticked, lined}
+use Rattle.player.specs.Evening.{Evening, noTick, oneTick, Chosen, noneChosen, callChosen, tickChosen, aCall, someTicks, theCounts, anySteps, noCommand, more, hadAfter, hadTick, called, ticked, lined}
 use Rattle.player.specs.Standing.{At, Choosing, Chose, Ticked, Performed}
 
 -- the call was answered as the rules say

@@ -1,19 +1,19 @@
 -- A script that comes byte by byte: one byte more of a line, the end of a line, the end of all.
 use mathlib.Core.Path.{_≡_, refl, sym, ap, subst, _∙_}
-use mathlib.Core.Bool.{Bool, true, false, not, _&&_}
+use mathlib.Core.Bool.{true, false, not}
 use mathlib.Core.List.{List, [], _∷_, _++_, append-assoc}
 use Prim.Native.Nat.{ℕ, _+_, _<_, _≤_}
 use native.Mathlib.Omega.{arith}
 use lib.Dec.{eqb, ltb, T}
 use lib.ListN.{length, take, getD}
-use Rattle.std.proofs.shelf.Lists.{append-nil, take-more, take-all}
+use Rattle.std.proofs.shelf.Lists.{append-nil, take-more}
 use borrow.Author.Tests.{ltb-true, ltb-false}
 use Rattle.sched.proofs.Tests.{and-T, and-left-T, and-right-T}
 use Rattle.script.specs.Taken.{LineTaken}
 use Rattle.script.specs.Printed.{Printed, pending}
 use Rattle.script.specs.Text.{asLine}
 use Rattle.player.specs.declared.Player.{Player}
-use Rattle.player.specs.Evening.{Evening, start, Plays, begin, oneLine, Allowed, wholeLines, lastUnended, lined, unbroken}
+use Rattle.player.specs.Evening.{start, begin, oneLine, Allowed, wholeLines, lastUnended, lined, unbroken}
 use Rattle.player.specs.Standing.{At, Performed, Playing, Played}
 use Rattle.player.proofs.Evenings.{at-still}
 

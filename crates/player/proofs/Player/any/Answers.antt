@@ -1,6 +1,5 @@
 -- Each step is the one that is drawn next.
 use mathlib.Core.Path.{_≡_, refl, _∙_}
-use Prim.Native.Nat.{_+_}
 use native.Mathlib.Omega.{arith}
 use Rattle.player.proofs.Evenings.{choosing-none, chose}
 use Rattle.player.proofs.Player.any.Needs as need

@@ -1,5 +1,5 @@
 -- Byte by byte; then all that was printed is handed on.
-use mathlib.Core.Path.{refl, ap, subst}
+use mathlib.Core.Path.{refl, subst}
 use mathlib.Core.List.{List, _++_}
 use Prim.Native.Nat.{ℕ, _<_}
 use native.Mathlib.Omega.{arith}

@@ -1,6 +1,5 @@
 -- What was chosen is a call or a tick.
 use mathlib.Core.Path.{_≡_, refl, subst}
-use Prim.Native.Nat.{ℕ}
 use Rattle.sched.specs.declared.Next.{Next}
 use Rattle.script.specs.Any.{drawn, step}
 use Rattle.player.proofs.Evenings.{choosing-call, choosing-tick, never-over}

@@ -1,5 +1,5 @@
 -- Each kind of command: what was printed is what its line is answered with.
-use mathlib.Core.Path.{_≡_, refl, ap, subst, _∙_}
+use mathlib.Core.Path.{refl, ap, _∙_}
 use Rattle.std.specs.declared.option.Option.the-variants.{Some}
 use Rattle.player.proofs.Evenings.{performed-call, performed-ticks, performed-had, performed-any}
 use Rattle.player.proofs.Player.perform.Needs as need

@@ -1,9 +1,8 @@
 -- A newline ends the line; any other byte is one more of it.
-use mathlib.Core.Path.{_≡_, refl, sym, subst}
-use mathlib.Core.List.{List, [], _∷_, _++_}
+use mathlib.Core.Path.{refl, sym, subst}
+use mathlib.Core.List.{[], _∷_, _++_}
 use Prim.Native.Nat.{ℕ}
 use Rattle.std.proofs.shelf.Tests.{ne-eqb}
-use Rattle.player.specs.Evening.{lined}
 use Rattle.player.specs.Standing.{Playing}
 use Rattle.player.proofs.Scripts.{playing-line, playing-byte}
 use Rattle.player.proofs.Player.take.Needs as need
