@@ -1,4 +1,6 @@
 // Draws the evening of the script on standard input, as SVG on standard output.
+#![tactic(auto)]
+
 mod buffer;
 
 use anyhow::anyhow;

@@ -1,4 +1,6 @@
 // Plays each script of the data folder from an empty scheduler, and compares what it writes with what the rules say.
+#![tactic(auto)]
+
 mod expectation;
 mod transcript;
 

@@ -1,4 +1,6 @@
 // Code that holds locks by guards, and what it learns from their drops.
+#![tactic(auto)]
+
 ghost use Rattle.std.specs.Prelude.{◌≡◌, true};
 ghost use Rattle.sched.specs.House.{House};
 ghost use Rattle.sched.specs.Stores.{Holds};

@@ -1,5 +1,7 @@
 // Where a tick is drawn: how wide it is, in which band, how far to the right. Ticks are wrapped into bands, each 960 wide,
 // so that a long script needs no wider page.
+#![tactic(auto)]
+
 ghost use Rattle.std.specs.Prelude.{◌≡◌, ◌+◌, ◌-◌, ◌*◌, ◌<◌, ◌≤◌};
 ghost use Rattle.layout.specs.Layout.{scale_of, tick_width, per_band};
 

@@ -1,4 +1,6 @@
 // A picture of an evening: a script is played, and what was seen is drawn as SVG.
+#![tactic(auto)]
+
 mod bands;
 mod boxes;
 mod brackets;

@@ -1,4 +1,6 @@
 // Plays a script as it comes in, and writes the answers.
+#![tactic(auto)]
+
 ghost use Rattle.std.specs.Prelude.{◌≡◌, ℕ, ◌+◌, true, List, [], ◌∷◌, ◌++◌, is_ok, Some};
 ghost use Rattle.script.specs.Any.{drawn, step};
 ghost use Rattle.script.specs.Grammar.{command_of};

@@ -1,4 +1,6 @@
 // Theorems on the rules in the subject's own words, each a contract.
+#![tactic(auto)]
+
 ghost use Rattle.promises.specs.Admission.{Admits};
 ghost use Rattle.promises.specs.Idle.{IdleOnlyIfUnwanted};
 ghost use Rattle.promises.specs.InTurn.{InTurn};

@@ -1,4 +1,6 @@
 // Whoever calls and runs, the scheduler, and the hours between them.
+#![tactic(auto)]
+
 ghost use Rattle.std.specs.Prelude.{◌≡◌, ℕ, suc, ◌+◌, ◌<◌, ◌≤◌, true, false, T};
 ghost use Rattle.sched.specs.House.{House, empty, calls, runner, may_run, after, number_of, goes_on'};
 ghost use Rattle.sched.specs.Promise.{NoRings, SharesFit, RowsStand, NearEachOther};
