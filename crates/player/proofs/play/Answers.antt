@@ -7,4 +7,4 @@ pub returns : goal.returns
 returns g c =
     λ ok before taken.
     c.finish.ensures ok before c.args.script.now
-    (c.in-ok-feed.ensures.playing refl before [] (playing-none g.S.Sink.took c.new-player.result c.args.out.now before c.new-player.ensures.at c.new-player.ensures.empty taken))
+    (c.in_ok-feed.ensures.playing refl before [] (playing-none g.S.Sink.took c.new-player.result c.args.out.now before c.new-player.ensures.at c.new-player.ensures.empty taken))

@@ -9,7 +9,7 @@ loop-k-init c = (λ e rest at. choosing-none c.args.seed c.new-generator.result.
 pub loop-k-preserved : goal.loop-k-preserved
 loop-k-preserved c = (
   λ e rest at.
-      c.go.ensures.goes c.args.seed c.loop-k.-k c.loop-k.generator.state c.next-step-chosen.new.self.state e rest (c.loop-k.invariant.0 e rest at) c.next-step-chosen.ensures,
+      c.go.ensures.goes c.args.seed c.loop-k.-k c.loop-k.generator.state c.next_step-chosen.new.self.state e rest (c.loop-k.invariant.0 e rest at) c.next_step-chosen.ensures,
   c.go.ensures.silent ∙ c.loop-k.invariant.1,
 )
 

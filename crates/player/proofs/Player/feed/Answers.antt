@@ -10,7 +10,7 @@ loop-k-preserved g c =
     λ before script so.
     let l : c.loop-k.k < length c.args.bytes.now = omega arith in
     playing-some g.S.Sink.took c.take.new.self c.take.new.out before script c.args.bytes.now c.loop-k.k l
-    (c.in-ok-take.ensures refl before (script ++ take c.loop-k.k c.args.bytes.now) (c.loop-k.invariant before script so))
+    (c.in_ok-take.ensures refl before (script ++ take c.loop-k.k c.args.bytes.now) (c.loop-k.invariant before script so))
 
 pub returns : goal.returns
 returns g c =

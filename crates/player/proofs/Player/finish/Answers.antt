@@ -8,12 +8,12 @@ returns-then-not-begun g c =
     λ ok before script so.
     played-whole g.S.Sink.took c.args.self.now
     (record { theatre = c.args.self.now.theatre; printer = c.flush.new.self; line = c.args.self.now.line; lines = c.args.self.now.lines }) c.args.out.now c.flush.new.out before script so
-    (sym (c.is-begun-begun.ensures so.rest so.at.line) ∙ c.if-not-begun.true) c.flush.ensures.empty (c.flush.ensures.printed ok)
+    (sym (c.is_begun-begun.ensures so.rest so.at.line) ∙ c.if-not-begun.true) c.flush.ensures.empty (c.flush.ensures.printed ok)
 
 pub returns : goal.returns
 returns g c =
     λ ok before script so.
-    played-last g.S.Sink.took c.args.self.now c.end-line.new.self
-    (record { theatre = c.end-line.new.self.theatre; printer = c.flush-2.new.self; line = c.end-line.new.self.line; lines = c.end-line.new.self.lines }) c.args.out.now c.end-line.new.out c.flush-2.new.out before
-    script so (sym (c.is-begun-begun.ensures so.rest so.at.line) ∙ c.if-not-begun.false)
-    (c.in-ok-end-line.ensures refl so.evening so.rest (before ++ so.text) so.at so.printed) c.flush-2.ensures.empty (c.flush-2.ensures.printed ok)
+    played-last g.S.Sink.took c.args.self.now c.end_line.new.self
+    (record { theatre = c.end_line.new.self.theatre; printer = c.flush-2.new.self; line = c.end_line.new.self.line; lines = c.end_line.new.self.lines }) c.args.out.now c.end_line.new.out c.flush-2.new.out before
+    script so (sym (c.is_begun-begun.ensures so.rest so.at.line) ∙ c.if-not-begun.false)
+    (c.in_ok-end_line.ensures refl so.evening so.rest (before ++ so.text) so.at so.printed) c.flush-2.ensures.empty (c.flush-2.ensures.printed ok)

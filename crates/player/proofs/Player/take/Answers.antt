@@ -8,8 +8,8 @@ use Rattle.player.proofs.Player.take.Goals as goal
 pub returns-then-byte-eq10 : goal.returns-then-byte-eq10
 returns-then-byte-eq10 g c =
     λ ok before script so.
-    subst (λ (b : ℕ). Playing g.S.Sink.took c.end-line.new.self c.end-line.new.out before (script ++ (b ∷ []))) (sym c.if-byte-eq10.true)
-    (playing-line g.S.Sink.took c.args.self.now c.end-line.new.self c.args.out.now c.end-line.new.out before script so (c.end-line.ensures ok so.evening so.rest (before ++ so.text) so.at so.printed))
+    subst (λ (b : ℕ). Playing g.S.Sink.took c.end_line.new.self c.end_line.new.out before (script ++ (b ∷ []))) (sym c.if-byte-eq10.true)
+    (playing-line g.S.Sink.took c.args.self.now c.end_line.new.self c.args.out.now c.end_line.new.out before script so (c.end_line.ensures ok so.evening so.rest (before ++ so.text) so.at so.printed))
 
 pub returns : goal.returns
 returns g c =

@@ -11,7 +11,7 @@ pub loop-k-preserved : goal.loop-k-preserved
 loop-k-preserved g c =
     λ e rest xs at printed.
     ticked-more g.S.Sink.took c.loop-k.-k e c.loop-k.self _ c.loop-k.out _ rest xs c.tick-whose.result.0 c.tick-whose.result.1 (c.loop-k.invariant e rest xs at printed) c.tick-whose.ensures.may
-    c.tick-whose.ensures.had refl refl (c.in-ok-tick.ensures refl)
+    c.tick-whose.ensures.had refl refl (c.in_ok-tick.ensures refl)
 
 pub returns : goal.returns
 returns g c =

@@ -13,7 +13,7 @@ pub loop-want-preserved : goal.loop-want-preserved
 loop-want-preserved c =
     lines_more
     c.loop-want.number
-    c.saturating-add-number.result
+    c.saturating_add-number.result
     (left c.loop-want.wanted)
     (left c.loop-want.lines)
     (left c.next.new.self)
@@ -21,13 +21,13 @@ loop-want-preserved c =
     c.in-Some.want.now
     c.in-Some.ensures
     c.if-not-met.ensures
-    c.saturating-add-number.ensures
+    c.saturating_add-number.ensures
     ∙ c.loop-want.invariant
 
 pub returns-in-Some-next : goal.returns-in-Some-next
 returns-in-Some-next c =
-    lines_left c.loop-want.number (left c.loop-want.wanted) (left c.loop-want.lines) (left c.next-2.new.self) c.in-Some-next.field-0.now c.in-default.ensures.0 c.in-Some-next.ensures
+    lines_left c.loop-want.number (left c.loop-want.wanted) (left c.loop-want.lines) (left c.next-2.new.self) c.in-Some-next.field-0.now c.in_default.ensures.0 c.in-Some-next.ensures
     ∙ c.loop-want.invariant
 
 pub returns-in-None : goal.returns-in-None
-returns-in-None c = lines-over c.loop-want.number (left c.loop-want.wanted) (left c.loop-want.lines) c.in-default.ensures.0 c.in-None.ensures.0 ∙ c.loop-want.invariant
+returns-in-None c = lines-over c.loop-want.number (left c.loop-want.wanted) (left c.loop-want.lines) c.in_default.ensures.0 c.in-None.ensures.0 ∙ c.loop-want.invariant

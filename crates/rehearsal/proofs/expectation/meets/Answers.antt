@@ -4,8 +4,8 @@ use Rattle.rehearsal.specs.Cuts.{left}
 use Rattle.rehearsal.proofs.Meeting.{words_more, words-apart, words-short, words-over, not-not}
 use Rattle.rehearsal.proofs.expectation.meets.Goals as goal
 
-pub returns-then-not-word-meets : goal.returns-then-not-word-meets
-returns-then-not-word-meets c =
+pub returns-then-not-word_meets : goal.returns-then-not-word_meets
+returns-then-not-word_meets c =
     sym
     (words-apart
     (left c.loop-word.wanted)
@@ -16,7 +16,7 @@ returns-then-not-word-meets c =
     c.in-Some-next.got.now
     c.in-Some.ensures
     c.in-Some-next.ensures
-    (sym c.if-not-word-meets.ensures))
+    (sym c.if-not-word_meets.ensures))
     ∙ c.loop-word.invariant
 
 pub loop-word-preserved : goal.loop-word-preserved
@@ -30,7 +30,7 @@ loop-word-preserved c =
     c.in-Some-next.got.now
     c.in-Some.ensures
     c.in-Some-next.ensures
-    (sym c.if-not-word-meets.ensures)
+    (sym c.if-not-word_meets.ensures)
     ∙ c.loop-word.invariant
 
 pub returns-in-None : goal.returns-in-None
@@ -40,7 +40,7 @@ returns-in-None c =
 
 pub returns : goal.returns
 returns c =
-    sym (not-not c.is-none.result)
-    ∙ ap not (sym c.is-none.ensures)
-    ∙ words-over (left c.loop-word.wanted) (left c.loop-word.words) (left c.next-2.new.self) c.next-2.result c.in-default.ensures.0 c.next-2.ensures
+    sym (not-not c.is_none.result)
+    ∙ ap not (sym c.is_none.ensures)
+    ∙ words-over (left c.loop-word.wanted) (left c.loop-word.words) (left c.next-2.new.self) c.next-2.result c.in_default.ensures.0 c.next-2.ensures
     ∙ c.loop-word.invariant

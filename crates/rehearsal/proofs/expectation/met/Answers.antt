@@ -4,7 +4,7 @@ use Rattle.rehearsal.proofs.Meeting.{following-ticks, following-none, found-line
 use Rattle.rehearsal.proofs.expectation.met.Goals as goal
 
 pub returns-in-Some : goal.returns-in-Some
-returns-in-Some c = rw (following-ticks c.args.want.now c.in-Some.many (left c.args.lines.now) c.in-Some.ensures) c.are-ticks.ensures
+returns-in-Some c = rw (following-ticks c.args.want.now c.in-Some.many (left c.args.lines.now) c.in-Some.ensures) c.are_ticks.ensures
 
 pub returns-in-Some-next : goal.returns-in-Some-next
 returns-in-Some-next c =

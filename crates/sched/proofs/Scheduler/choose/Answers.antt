@@ -11,12 +11,12 @@ returns-in-Some c h m asks =
 pub returns-in-Some-candidate : goal.returns-in-Some-candidate
 returns-in-Some-candidate c h m asks =
     let still = wants-still h c.args.wants.now asks in
-    chosen-fixed h (c.in-default.ensures (opened h) m.seen.slots still m.windows) c.in-Some-candidate.i
+    chosen-fixed h (c.in_default.ensures (opened h) m.seen.slots still m.windows) c.in-Some-candidate.i
     (c.in-Some-candidate.ensures (opened h) m.seen.slots still (m.turn, comes-once m.seen.locks.comes))
 
 pub returns : goal.returns
 returns c h m asks =
     let still = wants-still h c.args.wants.now asks in
-    chosen-fair h (c.in-default.ensures (opened h) m.seen.slots still m.windows)
-    (c.in-default-candidate.ensures (opened h) m.seen.slots still (m.turn, comes-once m.seen.locks.comes)) c.candidate-3.result
+    chosen-fair h (c.in_default.ensures (opened h) m.seen.slots still m.windows)
+    (c.in_default-candidate.ensures (opened h) m.seen.slots still (m.turn, comes-once m.seen.locks.comes)) c.candidate-3.result
     (c.candidate-3.ensures (opened h) m.seen.slots still m.fair.least)

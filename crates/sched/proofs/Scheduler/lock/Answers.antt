@@ -10,28 +10,28 @@ use Rattle.sched.proofs.Waiting.{waits-free, ring-told}
 use Rattle.sched.proofs.model.CallWays.{takes, queues}
 use Rattle.sched.proofs.model.Outcomes.{lock-none, lock-bad, lock-waits, lock-takes, lock-ring, lock-queues}
 use Rattle.sched.proofs.Scheduler.lock.Goals as goal
-use Rattle.sched.proofs.Scheduler.lock.Goals.{then-is-waiting-via-then-is-waiting, then-is-waiting-via-else-is-waiting+then-not-is-awake}
+use Rattle.sched.proofs.Scheduler.lock.Goals.{then-is_waiting-via-then-is_waiting, then-is_waiting-via-else-is-waiting+then-not-is_awake}
 
-pub returns-in-default : goal.returns-in-default
-returns-in-default c =
+pub returns-in_default : goal.returns-in_default
+returns-in_default c =
     let s = c.args.self.now in
     let n = c.args.number in
     let m = c.args.lock in
     record {
-      answered = turned-away s (Lock n m) c.answer.result 4 c.answer.ensures (λ h k. lock-none h n m (is-no-task s h k n c.in-default.ensures));
+      answered = turned-away s (Lock n m) c.answer.result 4 c.answer.ensures (λ h k. lock-none h n m (is-no-task s h k n c.in_default.ensures));
       refused = λ _. refl;
     }
 
-pub returns-in-default-new : goal.returns-in-default-new
-returns-in-default-new c =
+pub returns-in_default-new : goal.returns-in_default-new
+returns-in_default-new c =
     let s = c.args.self.now in
     let i = c.in-Some.i in
     let found = c.in-Some.ensures in
     let m = c.args.lock in
-    let a = c.answer-in-default-new in
+    let a = c.answer-in_default-new in
     record {
       answered = at_both (λ x y. Told s s (Lock x y) a.result) found.0 refl (turned-away s (Lock i.index m) a.result 1 a.ensures (λ h k.
-          lock-bad h i.index m (is-task s h k i.index i.within found.1) (le-leb 64 m c.in-default-new.ensures)));
+          lock-bad h i.index m (is-task s h k i.index i.within found.1) (le-leb 64 m c.in_default-new.ensures)));
       refused = λ _. refl;
     }
 
@@ -39,27 +39,27 @@ returns-in-default-new c =
 ready : {w a x y : Bool} → w ≡ x → a ≡ y → w ≡ false → a ≡ true → (x || not y) ≡ false
 ready {x = x} {y = y} e f free awake = or_from x (not y) (sym e ∙ free) (not_from_true y (sym f ∙ awake))
 
-pub returns-then-is-waiting : goal.returns-then-is-waiting
-returns-then-is-waiting c =
+pub returns-then-is_waiting : goal.returns-then-is_waiting
+returns-then-is_waiting c =
     let s = c.args.self.now in
     let i = c.in-Some.i in
     let m = c.in-Some-new.m in
     let found = c.in-Some.ensures in
-    let a = c.answer-then-is-waiting in
+    let a = c.answer-then-is_waiting in
     record {
       answered = at_both (λ x y. Told s s (Lock x y) a.result) found.0 c.in-Some-new.ensures.0 (turned-away s (Lock i.index m.index) a.result 9 a.ensures (λ h k.
-          let waits = c.is-waiting.ensures h (holds-locked s h k) in
+          let waits = c.is_waiting.ensures h (holds-locked s h k) in
           lock-waits h i.index m.index (is-task s h k i.index i.within found.1) (lt-leb 64 m.index m.within) (
-          elim c.then-is-waiting.branch [
-            | then-is-waiting-via-then-is-waiting w ↦ or_left _ _ (sym waits ∙ w.if-is-waiting.true)
-            | then-is-waiting-via-else-is-waiting+then-not-is-awake w ↦ or_right _ _ (not_from_false _ (sym (k.stores.awake.at i.index) ∙ (sym w.is-awake.ensures ∙ w.if-not-is-awake.true)))
+          elim c.then-is_waiting.branch [
+            | then-is_waiting-via-then-is_waiting w ↦ or_left _ _ (sym waits ∙ w.if-is_waiting.true)
+            | then-is_waiting-via-else-is-waiting+then-not-is_awake w ↦ or_right _ _ (not_from_false _ (sym (k.stores.awake.at i.index) ∙ (sym w.is_awake.ensures ∙ w.if-not-is_awake.true)))
           ])));
       refused = λ _. refl;
     }
 
-pub returns-in-default-owner : goal.returns-in-default-owner
+pub returns-in_default-owner : goal.returns-in_default-owner
 unfolding owner_of
-returns-in-default-owner c =
+returns-in_default-owner c =
     let s = c.args.self.now in
     let i = c.in-Some.i in
     let m = c.in-Some-new.m in
@@ -70,7 +70,7 @@ returns-in-default-owner c =
           (λ h k.
           let l = holds-locked s h k in
           lock-takes h i.index m.index (is-task s h k i.index i.within found.1) (lt-leb 64 m.index m.within)
-          (ready (c.is-waiting.ensures h l) (c.is-awake.ensures ∙ k.stores.awake.at i.index) c.if-is-waiting.false c.if-not-is-awake.false) (eq-eqb (h.owner m.index) 0 (sym (c.in-default-owner.ensures h l))))
+          (ready (c.is_waiting.ensures h l) (c.is_awake.ensures ∙ k.stores.awake.at i.index) c.if-is_waiting.false c.if-not-is_awake.false) (eq-eqb (h.owner m.index) 0 (sym (c.in_default-owner.ensures h l))))
           (λ h k. stores-takes s h k.stores t i m.index m.within c.take.ensures.owners c.take.ensures.waiters));
       refused = λ e. absurd (false≢true e);
     }
@@ -88,7 +88,7 @@ returns-then-index c =
           let l = holds-locked s h k in
           let owns = c.in-Some-owner.ensures h l in
           lock-ring h i.index m.index (is-task s h k i.index i.within found.1) (lt-leb 64 m.index m.within)
-          (ready (c.is-waiting.ensures h l) (c.is-awake.ensures ∙ k.stores.awake.at i.index) c.if-is-waiting.false c.if-not-is-awake.false) (ne_eqb (h.owner m.index) 0 (λ z. omega (arith, owns, z)))
+          (ready (c.is_waiting.ensures h l) (c.is_awake.ensures ∙ k.stores.awake.at i.index) c.if-is_waiting.false c.if-not-is_awake.false) (ne_eqb (h.owner m.index) 0 (λ z. omega (arith, owns, z)))
           (ring-told h m.index i.index c.in-Some-owner.owner.index c.runner.result.index c.index.result c.index-2.result owns (c.runner.ensures h l) c.index.ensures.value c.index-2.ensures.value ∙ eq-eqb _ _ c.if-index.true)));
       refused = λ _. refl;
     }
@@ -107,10 +107,10 @@ returns c =
           let l = holds-locked s h k in
           let owns = c.in-Some-owner.ensures h l in
           lock-queues h i.index m.index (is-task s h k i.index i.within found.1) (lt-leb 64 m.index m.within)
-          (ready (c.is-waiting.ensures h l) (c.is-awake.ensures ∙ k.stores.awake.at i.index) c.if-is-waiting.false c.if-not-is-awake.false) (ne_eqb (h.owner m.index) 0 (λ z. omega (arith, owns, z)))
+          (ready (c.is_waiting.ensures h l) (c.is_awake.ensures ∙ k.stores.awake.at i.index) c.if-is_waiting.false c.if-not-is_awake.false) (ne_eqb (h.owner m.index) 0 (λ z. omega (arith, owns, z)))
           (ring-told h m.index i.index c.in-Some-owner.owner.index c.runner.result.index c.index.result c.index-2.result owns (c.runner.ensures h l) c.index.ensures.value c.index-2.ensures.value ∙ ne_eqb _ _ c.if-index.false))
           (λ h k.
-          let free = eqb-true (h.waits i.index) 0 (not-false _ (sym (c.is-waiting.ensures h (holds-locked s h k)) ∙ c.if-is-waiting.false)) in
+          let free = eqb-true (h.waits i.index) 0 (not-false _ (sym (c.is_waiting.ensures h (holds-locked s h k)) ∙ c.if-is_waiting.false)) in
           stores-queues s h k.stores t i.index m.index (waits-free h k.comes i.index free) c.wait.ensures.owners c.wait.ensures.rows));
       refused = λ e. absurd (false≢true e);
     }

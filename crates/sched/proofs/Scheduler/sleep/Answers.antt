@@ -9,24 +9,24 @@ use Rattle.sched.proofs.model.CallWays.{asleep}
 use Rattle.sched.proofs.model.Outcomes.{sleep-none, sleep-waits, sleep-done}
 use Rattle.sched.proofs.Scheduler.sleep.Goals as goal
 
-pub returns-in-default : goal.returns-in-default
-returns-in-default c =
+pub returns-in_default : goal.returns-in_default
+returns-in_default c =
     let s = c.args.self.now in
     let n = c.args.number in
     record {
-      answered = turned-away s (Sleep n) c.answer.result 4 c.answer.ensures (λ h k. sleep-none h n (is-no-task s h k n c.in-default.ensures));
+      answered = turned-away s (Sleep n) c.answer.result 4 c.answer.ensures (λ h k. sleep-none h n (is-no-task s h k n c.in_default.ensures));
       refused = λ _. refl;
     }
 
-pub returns-then-is-waiting : goal.returns-then-is-waiting
-returns-then-is-waiting c =
+pub returns-then-is_waiting : goal.returns-then-is_waiting
+returns-then-is_waiting c =
     let s = c.args.self.now in
     let i = c.in-Some.i in
     let found = c.in-Some.ensures in
-    let a = c.answer-then-is-waiting in
+    let a = c.answer-then-is_waiting in
     record {
       answered = subst (λ n. Told s s (Sleep n) a.result) found.0 (turned-away s (Sleep i.index) a.result 9 a.ensures (λ h k.
-          sleep-waits h i.index (is-task s h k i.index i.within found.1) (sym (c.is-waiting.ensures h (holds-locked s h k)) ∙ c.if-is-waiting.true)));
+          sleep-waits h i.index (is-task s h k i.index i.within found.1) (sym (c.is_waiting.ensures h (holds-locked s h k)) ∙ c.if-is_waiting.true)));
       refused = λ _. refl;
     }
 
@@ -35,10 +35,10 @@ returns c =
     let s = c.args.self.now in
     let i = c.in-Some.i in
     let found = c.in-Some.ensures in
-    let t = c.set-awake.new.self in
+    let t = c.set_awake.new.self in
     record {
       answered = subst (λ n. Told s (with_tasks t s) (Sleep n) Done) found.0 (granted s (with_tasks t s) (Sleep i.index) Done (asleep i.index)
-          (λ h k. sleep-done h i.index (is-task s h k i.index i.within found.1) (sym (c.is-waiting.ensures h (holds-locked s h k)) ∙ c.if-is-waiting.false))
-          (λ h k. stores-awake s h k.stores t i.index false i.within c.set-awake.ensures.slots c.set-awake.ensures.awake));
+          (λ h k. sleep-done h i.index (is-task s h k i.index i.within found.1) (sym (c.is_waiting.ensures h (holds-locked s h k)) ∙ c.if-is_waiting.false))
+          (λ h k. stores-awake s h k.stores t i.index false i.within c.set_awake.ensures.slots c.set_awake.ensures.awake));
       refused = λ e. absurd (false≢true e);
     }

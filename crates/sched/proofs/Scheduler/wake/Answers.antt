@@ -9,12 +9,12 @@ use Rattle.sched.proofs.model.CallWays.{woken}
 use Rattle.sched.proofs.model.Outcomes.{wake-none, wake-done}
 use Rattle.sched.proofs.Scheduler.wake.Goals as goal
 
-pub returns-in-default : goal.returns-in-default
-returns-in-default c =
+pub returns-in_default : goal.returns-in_default
+returns-in_default c =
     let s = c.args.self.now in
     let n = c.args.number in
     record {
-      answered = turned-away s (Wake n) c.answer.result 4 c.answer.ensures (λ h k. wake-none h n (is-no-task s h k n c.in-default.ensures));
+      answered = turned-away s (Wake n) c.answer.result 4 c.answer.ensures (λ h k. wake-none h n (is-no-task s h k n c.in_default.ensures));
       refused = λ _. refl;
     }
 
@@ -23,10 +23,10 @@ returns c =
     let s = c.args.self.now in
     let i = c.in-Some.i in
     let found = c.in-Some.ensures in
-    let t = c.set-awake.new.self in
+    let t = c.set_awake.new.self in
     record {
       answered = subst (λ n. Told s (with_tasks t s) (Wake n) Done) found.0 (granted s (with_tasks t s) (Wake i.index) Done (woken i.index)
           (λ h k. wake-done h i.index (is-task s h k i.index i.within found.1))
-          (λ h k. stores-awake s h k.stores t i.index true i.within c.set-awake.ensures.slots c.set-awake.ensures.awake));
+          (λ h k. stores-awake s h k.stores t i.index true i.within c.set_awake.ensures.slots c.set_awake.ensures.awake));
       refused = λ e. absurd (false≢true e);
     }

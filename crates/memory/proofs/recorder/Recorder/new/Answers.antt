@@ -15,9 +15,9 @@ loop-i-preserved c =
           ∙ sym (take_more c.args.script.now c.loop-i.i Tick c.loop-i-test.true),
     )
 
-pub invariant-of-result : goal.invariant-of-result
+pub invariant_of-result : goal.invariant_of-result
 unfolding legal
-invariant-of-result c = (refl, (omega arith, (omega arith, (tt, tt))))
+invariant_of-result c = (refl, (omega arith, (omega arith, (tt, tt))))
 
 pub returns : goal.returns
 returns c =

@@ -5,8 +5,8 @@ use Rattle.sched.specs.House.{empty}
 use Rattle.memory.proofs.Runs.{legal-push}
 use Rattle.memory.proofs.recorder.Recorder.record.Goals as goal
 
-pub invariant-of-self : goal.invariant-of-self
-invariant-of-self c = (
+pub invariant_of-self : goal.invariant_of-self
+invariant_of-self c = (
   rw length-set c.args.self.now.sized,
   (
     c.args.self.now.within,

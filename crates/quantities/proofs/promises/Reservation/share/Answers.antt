@@ -3,12 +3,12 @@ use Rattle.std.proofs.Common.{◌/◌, mul-le-mul_right, arith}
 use native.Mathlib.Nat.{mul-div-le}
 use Rattle.quantities.proofs.promises.Reservation.share.Goals as goal
 
-pub overflow-mul-result : goal.overflow-mul-result
-overflow-mul-result c =
+pub overflow_mul-result : goal.overflow_mul-result
+overflow_mul-result c =
     let r = c.args.self in
     omega (arith, mul-le-mul_right (10080 / r.period) r.good.4, mul-div-le 10080 r.period)
 
-pub invariant-of-result : goal.invariant-of-result
-invariant-of-result c =
+pub invariant_of-result : goal.invariant_of-result
+invariant_of-result c =
     let r = c.args.self in
-    (omega (arith, mul-le-mul_right (10080 / r.period) r.good.4, mul-div-le 10080 r.period), tt)
+    record { within = omega (arith, mul-le-mul_right (10080 / r.period) r.good.4, mul-div-le 10080 r.period) }

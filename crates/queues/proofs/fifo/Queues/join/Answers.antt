@@ -5,4 +5,4 @@ use Rattle.queues.proofs.fifo.Queues.join.Goals as goal
 
 pub returns : goal.returns
 unfolding joined
-returns c = c.set-prev.ensures ∙ ap (λ s. set_before c.args.q.index c.args.b c.args.a s) c.set-next.ensures
+returns c = c.set_prev.ensures ∙ ap (λ s. set_before c.args.q.index c.args.b c.args.a s) c.set_next.ensures

@@ -5,8 +5,8 @@ use Rattle.queues.specs.Writes.{appended}
 use Rattle.queues.proofs.Changes.{moved, not-moved}
 use Rattle.queues.proofs.fifo.Queues.move_to_back.Goals as goal
 
-pub returns-in-default : goal.returns-in-default
-returns-in-default c = record { after = λ f h. not-moved h c.args.i.index (c.in-default.ensures f h); same = λ _. refl }
+pub returns-in_default : goal.returns-in_default
+returns-in_default c = record { after = λ f h. not-moved h c.args.i.index (c.in_default.ensures f h); same = λ _. refl }
 
 pub returns : goal.returns
 returns c =

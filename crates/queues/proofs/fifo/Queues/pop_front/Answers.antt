@@ -4,10 +4,10 @@ use Rattle.std.proofs.lemmas.Bool.{true≢false}
 use Rattle.queues.proofs.Changes.{popped, not_popped}
 use Rattle.queues.proofs.fifo.Queues.pop_front.Goals as goal
 
-pub returns-in-default : goal.returns-in-default
-returns-in-default c = record {
-  value = c.in-default.ensures;
-  after = λ f h. not_popped h c.args.q.index (c.in-default.ensures f h);
+pub returns-in_default : goal.returns-in_default
+returns-in_default c = record {
+  value = c.in_default.ensures;
+  after = λ f h. not_popped h c.args.q.index (c.in_default.ensures f h);
   same = λ _. refl;
 }
 

@@ -4,8 +4,8 @@ use Rattle.std.proofs.lemmas.Bool.{true≢false}
 use Rattle.queues.proofs.Changes.{removed, not-removed}
 use Rattle.queues.proofs.fifo.Queues.remove.Goals as goal
 
-pub returns-in-default : goal.returns-in-default
-returns-in-default c = record { after = λ f h. not-removed h c.args.i.index (c.in-default.ensures f h); same = λ _. refl }
+pub returns-in_default : goal.returns-in_default
+returns-in_default c = record { after = λ f h. not-removed h c.args.i.index (c.in_default.ensures f h); same = λ _. refl }
 
 pub returns : goal.returns
 returns c = record {

@@ -4,7 +4,7 @@ use Rattle.sched.specs.House.{fair_wants, opened}
 use Rattle.sched.specs.Begun.{Begins}
 use Rattle.sched.proofs.positions.Beginning.{begins-first, asked}
 use Rattle.sched.proofs.fair.Fair.begin.Goals as goal
-use Rattle.sched.proofs.fair.Fair.begin.Goals.{in-Some, in-default, then-is-fair, else-is-fair}
+use Rattle.sched.proofs.fair.Fair.begin.Goals.{in-Some, in_default, then-is_fair, else-is_fair}
 
 pub loop-k-init : goal.loop-k-init
 loop-k-init c base h comes slots wanting begins = begins
@@ -14,14 +14,14 @@ loop-k-preserved c base h comes slots wanting begins =
     let before = c.loop-k.invariant base h comes slots wanting begins in
     elim c.match-new.branch [
       | in-Some w ↦ let is = w.in-Some.ensures.0 in
-          let asks : w.if-is-fair.ask ≡ fair_wants (opened h) w.in-Some.i.index = asked h c.args.tasks.now.slots c.args.wants.now.flags w.in-Some.i.index w.slot.result w.is-fair.result w.if-is-fair.ask slots wanting w.slot.ensures w.is-fair.ensures
-          (elim w.if-is-fair.branch [ then-is-fair v ↦ inl (v.if-is-fair.true, v.ask-is ∙ v.of.ensures) | else-is-fair v ↦ inr (v.if-is-fair.false, v.ask-is ∙ v.if-is-fair.false) ]) in
+          let asks : w.if-is_fair.ask ≡ fair_wants (opened h) w.in-Some.i.index = asked h c.args.tasks.now.slots c.args.wants.now.flags w.in-Some.i.index w.slot.result w.is_fair.result w.if-is_fair.ask slots wanting w.slot.ensures w.is_fair.ensures
+          (elim w.if-is_fair.branch [ then-is_fair v ↦ inl (v.if-is_fair.true, v.ask-is ∙ v.of.ensures) | else-is_fair v ↦ inr (v.if-is_fair.false, v.ask-is ∙ v.if-is_fair.false) ]) in
           let after = w.ask.ensures base h comes asks (subst (λ k. Begins base k c.loop-k.self h) (sym is) before) in
           subst (λ s. Begins base (c.loop-k.k + 1) s h) (sym w.self-is) (subst (λ k. Begins base (k + 1) w.ask.new.self h) is after)
-      | in-default w ↦ let past = w.in-default.ensures in absurd (omega arith)
+      | in_default w ↦ let past = w.in_default.ensures in absurd (omega arith)
     ]
 
 pub returns : goal.returns
 returns c h comes slots wanting fairly =
     let e : c.loop-k.k ≡ 64 = omega arith in
-    c.raise-mark.ensures fairly.base h comes (subst (λ k. Begins fairly.base k c.loop-k.self h) e (c.loop-k.invariant fairly.base h comes slots wanting (begins-first c.args.self.now fairly)))
+    c.raise_mark.ensures fairly.base h comes (subst (λ k. Begins fairly.base k c.loop-k.self h) e (c.loop-k.invariant fairly.base h comes slots wanting (begins-first c.args.self.now fairly)))

@@ -8,4 +8,4 @@ use Rattle.sched.proofs.fixed.Fixed.first_of.Goals as goal
 
 pub returns-in-Some : goal.returns-in-Some
 returns-in-Some c h turn asks l =
-    c.first-wanting.ensures (ranks h.place h.turn) h turn asks ∙ ap (λ r. in_turn (asking h) (ranks h.place h.turn r)) c.in-Some.ensures.0 ∙ turn-kept (of_rank h.place c.args.number) (asking h) h.turn
+    c.first_wanting.ensures (ranks h.place h.turn) h turn asks ∙ ap (λ r. in_turn (asking h) (ranks h.place h.turn r)) c.in-Some.ensures.0 ∙ turn-kept (of_rank h.place c.args.number) (asking h) h.turn

@@ -11,8 +11,8 @@ returns-in-Reserved c place turn h none =
 
 pub returns-in-Fixed : goal.returns-in-Fixed
 returns-in-Fixed c place turn h none =
-    made-pushed place turn c.push-back-pushed.new.self c.args.i.index c.of-rank.result.index c.args.promise c.in-Fixed.rank c.push-back-pushed.result c.in-Fixed.is c.of-rank.ensures none
-    (c.push-back-pushed.ensures.after (ranks place turn) h)
+    made-pushed place turn c.push_back-pushed.new.self c.args.i.index c.of_rank.result.index c.args.promise c.in-Fixed.rank c.push_back-pushed.result c.in-Fixed.is c.of_rank.ensures none
+    (c.push_back-pushed.ensures.after (ranks place turn) h)
 
 pub returns-in-Fair : goal.returns-in-Fair
 unfolding kind_of is_fixed

@@ -8,8 +8,8 @@ pub returns-in-Some : goal.returns-in-Some
 unfolding owner_of
 returns-in-Some c place turn h once =
     rw c.in-Some.is
-    (passed-moved place turn c.args.self.now.turn c.move-to-back-moved.new.self c.in-Some.i.index c.move-to-back-moved.result once h
-    (c.move-to-back-moved.ensures.after (ranks place turn) h) c.move-to-back-moved.ensures.same)
+    (passed-moved place turn c.args.self.now.turn c.move_to_back-moved.new.self c.in-Some.i.index c.move_to_back-moved.result once h
+    (c.move_to_back-moved.ensures.after (ranks place turn) h) c.move_to_back-moved.ensures.same)
 
 pub returns-in-None : goal.returns-in-None
 unfolding owner_of

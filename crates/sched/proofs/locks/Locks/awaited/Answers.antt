@@ -11,9 +11,9 @@ unfolding awaited_of
 lock-told None n l e = absurd (omega arith)
 lock-told (Some m) n l e = ap suc e.0
 
-pub returns-in-default : goal.returns-in-default
+pub returns-in_default : goal.returns-in_default
 unfolding awaited_of
-returns-in-default c h k = sym (free-waits h k.comes c.args.i.index (c.in-default.ensures h.row k.rows))
+returns-in_default c h k = sym (free-waits h k.comes c.args.i.index (c.in_default.ensures h.row k.rows))
 
 pub returns : goal.returns
 returns c h k =

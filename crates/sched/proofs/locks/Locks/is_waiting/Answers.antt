@@ -5,4 +5,4 @@ use Rattle.sched.proofs.locks.Locks.is_waiting.Goals as goal
 
 pub returns : goal.returns
 returns c h k =
-    c.is-some.ensures ∙ waits-told h k.comes c.args.i.index c.queue-of.result (c.queue-of.ensures h.row k.rows)
+    c.is_some.ensures ∙ waits-told h k.comes c.args.i.index c.queue_of.result (c.queue_of.ensures h.row k.rows)

@@ -13,12 +13,12 @@ pub loop-m-preserved : goal.loop-m-preserved
 loop-m-preserved c =
     let xs = c.args.self.now.owners in
     let same : get_or xs c.loop-m.m c.index-self-m.result ≡ get_or xs c.loop-m.m None = search (rules, get_or_default) in
-    below_more _ _ c.loop-m.invariant (ap (λ o. eqb (owner_of o) (suc c.args.i.index)) (sym same) ∙ (sym c.is-owned-by.ensures ∙ c.if-is-owned-by.false))
+    below_more _ _ c.loop-m.invariant (ap (λ o. eqb (owner_of o) (suc c.args.i.index)) (sym same) ∙ (sym c.is_owned_by.ensures ∙ c.if-is_owned_by.false))
 
-pub returns-then-is-owned-by : goal.returns-then-is-owned-by
-returns-then-is-owned-by c h k =
+pub returns-then-is_owned_by : goal.returns-then-is_owned_by
+returns-then-is_owned_by c h k =
     let here = reads_at owner_of None c.loop-m.m c.loop-m.m c.index-self-m.result refl c.loop-m-test.true k.owners in
-    sym (some-from _ 64 c.loop-m.m c.loop-m-test.true (ap (λ n. eqb n (suc c.args.i.index)) (sym here) ∙ (sym c.is-owned-by.ensures ∙ c.if-is-owned-by.true)))
+    sym (some-from _ 64 c.loop-m.m c.loop-m-test.true (ap (λ n. eqb n (suc c.args.i.index)) (sym here) ∙ (sym c.is_owned_by.ensures ∙ c.if-is_owned_by.true)))
 
 pub returns : goal.returns
 returns c h k =

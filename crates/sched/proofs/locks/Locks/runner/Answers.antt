@@ -13,8 +13,8 @@ loop-k-preserved c h k =
     let e = c.in-Some.ensures h k in
     sym (runner-steps h c.loop-k.k c.loop-k.at.index _ c.loop-k-test.true e.0 e.1) ∙ c.loop-k.invariant h k
 
-pub returns-in-default : goal.returns-in-default
-returns-in-default c h k = sym (runner-self h (64 - c.loop-k.k) c.loop-k.at.index (c.in-default.ensures h k)) ∙ c.loop-k.invariant h k
+pub returns-in_default : goal.returns-in_default
+returns-in_default c h k = sym (runner-self h (64 - c.loop-k.k) c.loop-k.at.index (c.in_default.ensures h k)) ∙ c.loop-k.invariant h k
 
 pub returns : goal.returns
 unfolding runner

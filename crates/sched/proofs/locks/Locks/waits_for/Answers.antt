@@ -5,8 +5,8 @@ use Rattle.sched.proofs.Arrays.{reads_at}
 use Rattle.sched.proofs.Waiting.{free-waits, owner-told}
 use Rattle.sched.proofs.locks.Locks.waits_for.Goals as goal
 
-pub returns-in-default : goal.returns-in-default
-returns-in-default c h k = free-waits h k.comes c.args.i.index (c.in-default.ensures h.row k.rows)
+pub returns-in_default : goal.returns-in_default
+returns-in_default c h k = free-waits h k.comes c.args.i.index (c.in_default.ensures h.row k.rows)
 
 pub returns : goal.returns
 returns c h k =

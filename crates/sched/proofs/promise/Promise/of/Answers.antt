@@ -4,14 +4,14 @@ use Rattle.sched.specs.House.{good}
 use Rattle.sched.proofs.Promises.{reservation-good, reservation-bad, reservation-kind, rank-good, rank-bad, rank-kind, weight-good, weight-bad, weight-kind}
 use Rattle.sched.proofs.promise.Promise.of.Goals as goal
 
-pub returns-in-default : goal.returns-in-default
-returns-in-default c = ap good c.in-Reserved.is ∙ reservation-bad _ _ c.in-default.ensures
+pub returns-in_default : goal.returns-in_default
+returns-in_default c = ap good c.in-Reserved.is ∙ reservation-bad _ _ c.in_default.ensures
 
-pub returns-in-default-new : goal.returns-in-default-new
-returns-in-default-new c = ap good c.in-Fixed.is ∙ rank-bad _ c.in-default-new.ensures
+pub returns-in_default-new : goal.returns-in_default-new
+returns-in_default-new c = ap good c.in-Fixed.is ∙ rank-bad _ c.in_default-new.ensures
 
-pub returns-in-default-new-2 : goal.returns-in-default-new-2
-returns-in-default-new-2 c = ap good c.in-Fair.is ∙ weight-bad _ c.in-default-new-2.ensures
+pub returns-in_default-new-2 : goal.returns-in_default-new-2
+returns-in_default-new-2 c = ap good c.in-Fair.is ∙ weight-bad _ c.in_default-new-2.ensures
 
 pub returns-in-Some : goal.returns-in-Some
 returns-in-Some c =

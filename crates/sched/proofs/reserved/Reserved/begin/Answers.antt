@@ -7,7 +7,7 @@ use Rattle.sched.specs.Stores.{Reads, place_of, window_of}
 use Rattle.sched.proofs.Upto.{upto, upto-here, upto-set, upto_all, reads-past}
 use Rattle.sched.proofs.Passing.{begin-past}
 use Rattle.sched.proofs.reserved.Reserved.begin.Goals as goal
-use Rattle.sched.proofs.reserved.Reserved.begin.Goals.{in-Some, in-default}
+use Rattle.sched.proofs.reserved.Reserved.begin.Goals.{in-Some, in_default}
 
 pub loop-k-preserved : goal.loop-k-preserved
 loop-k-preserved c h slots asks windows =
@@ -19,7 +19,7 @@ loop-k-preserved c h slots asks windows =
           let told = w.begun.ensures h slots asks (upto-here (windowed h).window h.window window_of window-is.Shut c.loop-k.self.windows c.loop-k.k w.in-Some.i.index here inv) in
           let P : code.Reserved → Type 0 = λ s. Reads window_of window-is.Shut s.windows (upto (c.loop-k.k + 1) (windowed h).window h.window) in
           subst P (sym w.self-is) (upto-set (windowed h).window h.window window_of window-is.Shut c.loop-k.self.windows c.loop-k.k w.index.result w.begun.result at c.loop-k-test.true (told ∙ ap (windowed h).window (sym w.index.ensures.value)) inv)
-      | in-default w ↦ absurd (omega (arith, w.in-default.ensures))
+      | in_default w ↦ absurd (omega (arith, w.in_default.ensures))
     ]
 
 pub returns : goal.returns

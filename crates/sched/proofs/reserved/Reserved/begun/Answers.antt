@@ -11,5 +11,5 @@ returns-in-Some c h slots asks at =
 
 pub returns-in-None : goal.returns-in-None
 returns-in-None c h slots asks at =
-    begin-other c.window-in-None.result c.begin-kept.result (h.place c.args.i.index) (wants h c.args.i.index) (h.window c.args.i.index)
-    (ap is_reserved (sym (slots.at c.args.i.index) ∙ ap place_of (sym c.slot.ensures)) ∙ c.in-None.ensures) (ap window_of c.window-in-None.ensures ∙ at) c.begin-kept.ensures
+    begin-other c.window-in-None.result c.begin_kept.result (h.place c.args.i.index) (wants h c.args.i.index) (h.window c.args.i.index)
+    (ap is_reserved (sym (slots.at c.args.i.index) ∙ ap place_of (sym c.slot.ensures)) ∙ c.in-None.ensures) (ap window_of c.window-in-None.ensures ∙ at) c.begin_kept.ensures

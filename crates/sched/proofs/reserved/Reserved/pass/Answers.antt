@@ -8,7 +8,7 @@ use Rattle.sched.specs.Stores.{Reads, place_of, window_of, owner_of}
 use Rattle.sched.proofs.Upto.{upto, upto_all, reads-past}
 use Rattle.sched.proofs.Passing.{pass-windows, pass-places, pass-windows-past, pass-places-past}
 use Rattle.sched.proofs.reserved.Reserved.pass.Goals as goal
-use Rattle.sched.proofs.reserved.Reserved.pass.Goals.{in-Some, in-default}
+use Rattle.sched.proofs.reserved.Reserved.pass.Goals.{in-Some, in_default}
 
 pub loop-k-preserved : goal.loop-k-preserved
 loop-k-preserved c =
@@ -16,15 +16,15 @@ loop-k-preserved c =
       | in-Some w ↦ (
         λ h windows.
             let P : code.Reserved → Type 0 = λ s. Reads window_of window-is.Shut s.windows (upto (c.loop-k.k + 1) (ticked h (owner_of c.args.whose)).window h.window) in
-            subst P (sym w.self-is) (pass-windows h (owner_of c.args.whose) c.loop-k.k w.in-Some.i.index w.is-mine.result w.in-Some.ensures.0 w.is-mine.ensures w.pass-at.new.self.windows
-            (w.pass-at.ensures.windows (upto c.loop-k.k (ticked h (owner_of c.args.whose)).window h.window) (c.loop-k.invariant.0 h windows))),
+            subst P (sym w.self-is) (pass-windows h (owner_of c.args.whose) c.loop-k.k w.in-Some.i.index w.is_mine.result w.in-Some.ensures.0 w.is_mine.ensures w.pass_at.new.self.windows
+            (w.pass_at.ensures.windows (upto c.loop-k.k (ticked h (owner_of c.args.whose)).window h.window) (c.loop-k.invariant.0 h windows))),
         λ h windows slots.
             let P : Tasks → Type 0 = λ s. Reads place_of slot.Free s.slots (upto (c.loop-k.k + 1) (ticked h (owner_of c.args.whose)).place h.place) in
-            subst P (sym w.tasks-is) (pass-places h (owner_of c.args.whose) c.loop-k.k w.in-Some.i.index w.is-mine.result w.in-Some.ensures.0 w.is-mine.ensures w.pass-at.new.tasks.slots
-            (w.pass-at.ensures.places (upto c.loop-k.k (ticked h (owner_of c.args.whose)).window h.window) (upto c.loop-k.k (ticked h (owner_of c.args.whose)).place h.place) (c.loop-k.invariant.0 h windows) (c.loop-k.invariant.1 h windows slots))),
-        ap (λ (s : Tasks). s.awake) w.tasks-is ∙ w.pass-at.ensures.awake ∙ c.loop-k.invariant.2,
+            subst P (sym w.tasks-is) (pass-places h (owner_of c.args.whose) c.loop-k.k w.in-Some.i.index w.is_mine.result w.in-Some.ensures.0 w.is_mine.ensures w.pass_at.new.tasks.slots
+            (w.pass_at.ensures.places (upto c.loop-k.k (ticked h (owner_of c.args.whose)).window h.window) (upto c.loop-k.k (ticked h (owner_of c.args.whose)).place h.place) (c.loop-k.invariant.0 h windows) (c.loop-k.invariant.1 h windows slots))),
+        ap (λ (s : Tasks). s.awake) w.tasks-is ∙ w.pass_at.ensures.awake ∙ c.loop-k.invariant.2,
       )
-      | in-default w ↦ absurd (omega (arith, w.in-default.ensures))
+      | in_default w ↦ absurd (omega (arith, w.in_default.ensures))
     ]
 
 pub returns : goal.returns

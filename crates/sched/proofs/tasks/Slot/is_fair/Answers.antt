@@ -9,7 +9,7 @@ returns-in-Free c = rw c.in-Free.is refl
 
 pub returns-in-Task : goal.returns-in-Task
 unfolding place_of
-returns-in-Task c = rw c.in-Task.is c.is-fair.ensures
+returns-in-Task c = rw c.in-Task.is c.is_fair.ensures
 
 pub returns-in-Kept : goal.returns-in-Kept
 unfolding place_of weight_of

@@ -14,11 +14,11 @@ found : (f : ℕ → Bool) (i : ℕ) (r : Option TaskId) → i < 64 → f i ≡ 
 found f i None l here below told = absurd (omega arith)
 found f i (Some t) l here below told = (some-from f 64 i l here, told.0 ∙ sym (first-unique f 64 i l here below))
 
-pub returns-then-is-free : goal.returns-then-is-free
-returns-then-is-free c =
+pub returns-then-is_free : goal.returns-then-is_free
+returns-then-is_free c =
     let xs = c.args.self.now.slots in
     let same : get_or xs c.loop-i.i c.index-self-i.result ≡ get_or xs c.loop-i.i slot.Free = search (rules, get_or_default) in
-    found _ c.loop-i.i c.new.result c.loop-i-test.true (ap (λ s. is_nobody (place_of s)) (sym same) ∙ (sym c.is-free.ensures ∙ c.if-is-free.true)) c.loop-i.invariant c.new.ensures
+    found _ c.loop-i.i c.new.result c.loop-i-test.true (ap (λ s. is_nobody (place_of s)) (sym same) ∙ (sym c.is_free.ensures ∙ c.if-is_free.true)) c.loop-i.invariant c.new.ensures
 
 pub returns : goal.returns
 returns c = none_from _ 64 (λ k l. c.loop-i.invariant k (omega arith))

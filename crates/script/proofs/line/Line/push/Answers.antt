@@ -16,8 +16,8 @@ returns c =
       standing =
           elim c.if-byte-eq32.branch [
             | then-byte-eq32 w ↦
-                let Q : ℕ → Type 0 = λ b. Standing w.next-word.new.self.words w.next-word.new.self.at w.next-word.new.self.bad (xs ++ (b ∷ [])) in
-                subst P (sym w.self-is) (subst Q (sym w.if-byte-eq32.true) (w.next-word.ensures xs t.standing))
+                let Q : ℕ → Type 0 = λ b. Standing w.next_word.new.self.words w.next_word.new.self.at w.next_word.new.self.bad (xs ++ (b ∷ [])) in
+                subst P (sym w.self-is) (subst Q (sym w.if-byte-eq32.true) (w.next_word.ensures xs t.standing))
             | else-byte-eq32 w ↦ subst P (sym w.self-is) (w.more.ensures xs (ne_eqb c.args.byte 32 w.if-byte-eq32.false) t.standing)
           ];
     }

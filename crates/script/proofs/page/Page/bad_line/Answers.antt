@@ -8,11 +8,11 @@ returns c =
     record {
       text =
           λ room.
-          let m = c.text-number.ensures.most (omega (arith, room)) in
-          wrote-more c.args.self.now c.text-number.new.self c.text.new.self _ _ (c.text-number.ensures.text (omega (arith, room))) (c.text.ensures (omega (arith, room, m)));
+          let m = c.text_number.ensures.most (omega (arith, room)) in
+          wrote-more c.args.self.now c.text_number.new.self c.text.new.self _ _ (c.text_number.ensures.text (omega (arith, room))) (c.text.ensures (omega (arith, room, m)));
       room =
           λ room.
-          let m = c.text-number.ensures.most (omega (arith, room)) in
+          let m = c.text_number.ensures.most (omega (arith, room)) in
           let b = c.text.ensures (omega (arith, room, m)) in
           omega (arith, room, m, b.len);
     }

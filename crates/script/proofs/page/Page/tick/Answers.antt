@@ -14,11 +14,11 @@ returns-then-runs-i c =
       text =
           λ room.
           let m = c.number.ensures.most (omega (arith, room)) in
-          wrote-same c.args.self.now c.text-number.new.self _ _ e
-          (wrote-more c.args.self.now c.number.new.self c.text-number.new.self _ _ (c.number.ensures.text (omega (arith, room))) (c.text-number.ensures.text (omega (arith, room, m))));
+          wrote-same c.args.self.now c.text_number.new.self _ _ e
+          (wrote-more c.args.self.now c.number.new.self c.text_number.new.self _ _ (c.number.ensures.text (omega (arith, room))) (c.text_number.ensures.text (omega (arith, room, m))));
       room =
           λ room.
           let m = c.number.ensures.most (omega (arith, room)) in
-          let b = c.text-number.ensures.most (omega (arith, room, m)) in
+          let b = c.text_number.ensures.most (omega (arith, room, m)) in
           omega (arith, room, m, b);
     }

@@ -7,5 +7,5 @@ pub returns : goal.returns
 returns g c =
     let p = c.args.self.now.page in
     λ ok xs h.
-    printed-line g.S.Sink.took c.args.out.now c.end-line.new.out p c.answer.new.self c.end-line.new.self xs (answer_text c.args.answer) (c.answer.ensures.text c.args.self.now.room)
-    (c.end-line.ensures.printed ok (c.answer.ensures.room c.args.self.now.room)) h
+    printed-line g.S.Sink.took c.args.out.now c.end_line.new.out p c.answer.new.self c.end_line.new.self xs (answer_text c.args.answer) (c.answer.ensures.text c.args.self.now.room)
+    (c.end_line.ensures.printed ok (c.answer.ensures.room c.args.self.now.room)) h
