@@ -152,7 +152,7 @@ pub fn scheduler_is_small() -> bool
 
 // THE MAIN PROMISE. Whatever is called, tick after tick.
 pub fn hours<W: World>(w: &mut W, many: u64)
-    requires begins { house w.old ≡ empty }
+    requires begins { W.house w.old ≡ empty }
 {
     let mut s = Scheduler::new();
     let mut n: u64 = 0;

@@ -10,7 +10,7 @@ use Rattle.sched.proofs.Waiting.{waits-free, ring-told}
 use Rattle.sched.proofs.model.CallWays.{takes, queues}
 use Rattle.sched.proofs.model.Outcomes.{lock-none, lock-bad, lock-waits, lock-takes, lock-ring, lock-queues}
 use Rattle.sched.proofs.Scheduler.lock.Goals as goal
-use Rattle.sched.proofs.Scheduler.lock.Goals.{then-is_waiting-via-then-is_waiting, then-is_waiting-via-else-is-waiting+then-not-is_awake}
+use Rattle.sched.proofs.Scheduler.lock.Goals.{then-is_waiting-via-then-is_waiting, then-is_waiting-via-else-is_waiting+then-not-is_awake}
 
 pub returns-in_default : goal.returns-in_default
 returns-in_default c =
@@ -52,7 +52,7 @@ returns-then-is_waiting c =
           lock-waits h i.index m.index (is-task s h k i.index i.within found.1) (lt-leb 64 m.index m.within) (
           elim c.then-is_waiting.branch [
             | then-is_waiting-via-then-is_waiting w ↦ or_left _ _ (sym waits ∙ w.if-is_waiting.true)
-            | then-is_waiting-via-else-is-waiting+then-not-is_awake w ↦ or_right _ _ (not_from_false _ (sym (k.stores.awake.at i.index) ∙ (sym w.is_awake.ensures ∙ w.if-not-is_awake.true)))
+            | then-is_waiting-via-else-is_waiting+then-not-is_awake w ↦ or_right _ _ (not_from_false _ (sym (k.stores.awake.at i.index) ∙ (sym w.is_awake.ensures ∙ w.if-not-is_awake.true)))
           ])));
       refused = λ _. refl;
     }

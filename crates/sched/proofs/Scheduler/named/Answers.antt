@@ -9,7 +9,7 @@ returns-in-Some c =
     let owner : owner_of c.args.whose ≡ suc c.in-Some.i.index = ap owner_of c.in-Some.is in
     record {
       number = ap suc c.number.ensures.value ∙ sym owner;
-      runs = λ h i locked e. let same : c.in-Some.i.index ≡ i = omega arith in c.number_in-Some.ensures.value ∙ c.runner.ensures h locked ∙ ap (runner 64 h) same;
+      runs = λ h i locked e. let same : c.in-Some.i.index ≡ i = omega arith in c.number-in-Some.ensures.value ∙ c.runner.ensures h locked ∙ ap (runner 64 h) same;
     }
 
 pub returns-in-None : goal.returns-in-None

@@ -15,4 +15,4 @@ loop-k-preserved c h asks turn r l =
     (λ ne. c.loop-k.invariant h asks turn r (omega arith)) (cases_eq r c.loop-k.k)
 
 pub returns : goal.returns
-returns c h slots asks (turn, once) = no-rank h once c.args.-tasks.now slots (λ r l. c.loop-k.invariant h asks turn r (omega arith))
+returns c h slots asks (turn, once) = no-rank h once c.args._tasks.now slots (λ r l. c.loop-k.invariant h asks turn r (omega arith))

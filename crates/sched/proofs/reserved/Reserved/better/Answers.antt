@@ -6,7 +6,7 @@ use Rattle.sched.specs.Midtick.{sooner_than, SlotsOf, WantsOf, WindowsOf}
 use Rattle.sched.proofs.Soonest.{past-due, best-skip, best-keep, best-take}
 use Rattle.sched.proofs.Upto.{reads-past}
 use Rattle.sched.proofs.reserved.Reserved.better.Goals as goal
-use Rattle.sched.proofs.reserved.Reserved.better.Goals.{else-is_due-via-then-is-due+else-goes_before, else-is_due-via-else-is_due}
+use Rattle.sched.proofs.reserved.Reserved.better.Goals.{else-is_due-via-then-is_due+else-goes_before, else-is_due-via-else-is_due}
 
 pub returns-in_default : goal.returns-in_default
 unfolding place_of
@@ -22,7 +22,7 @@ pub returns : goal.returns
 returns c h slots asks windows b =
     let at = c.in-Some.ensures.0 in
     elim c.else-is_due.branch [
-      | else-is_due-via-then-is-due+else-goes_before w ↦
+      | else-is_due-via-then-is_due+else-goes_before w ↦
           best-keep h c.args.k c.args.best w.goes_before.result w.if-goes_before.false
           (let P : ℕ → Type 0 = λ n. MatchOption c.args.best (w.goes_before.result ≡ true) (λ j. w.goes_before.result ≡ sooner_than (h.window n) (h.window j.index)) in subst P at (w.goes_before.ensures h.window windows)) b
       | else-is_due-via-else-is_due w ↦ best-skip h c.args.k c.args.best (ap (due h) (sym at) ∙ sym (c.is_due.ensures h slots asks windows) ∙ w.if-is_due.false) b
