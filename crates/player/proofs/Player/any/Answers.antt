@@ -9,14 +9,14 @@ loop-k-init c = (λ e rest at. choosing-none c.args.seed c.new-generator.result.
 pub loop-k-preserved : goal.loop-k-preserved
 loop-k-preserved c = (
   λ e rest at.
-      c.go.ensures.goes c.args.seed c.loop-k.-k c.loop-k.generator.state c.next_step-chosen.new.self.state e rest (c.loop-k.invariant.0 e rest at) c.next_step-chosen.ensures,
+      c.go.ensures.goes c.args.seed c.loop-k._k c.loop-k.generator.state c.next_step-chosen.new.self.state e rest (c.loop-k.invariant.0 e rest at) c.next_step-chosen.ensures,
   c.go.ensures.silent ∙ c.loop-k.invariant.1,
 )
 
 pub returns : goal.returns
 returns c =
-    let n : c.loop-k.-k ≡ c.args.many = omega arith in
+    let n : c.loop-k._k ≡ c.args.many = omega arith in
     record {
-      chose = λ e rest at. chose c.args.seed c.loop-k.-k c.loop-k.generator.state 0 e c.loop-k.self c.loop-k.self rest (c.loop-k.invariant.0 e rest at) c.args.many n;
+      chose = λ e rest at. chose c.args.seed c.loop-k._k c.loop-k.generator.state 0 e c.loop-k.self c.loop-k.self rest (c.loop-k.invariant.0 e rest at) c.args.many n;
       silent = c.loop-k.invariant.1;
     }

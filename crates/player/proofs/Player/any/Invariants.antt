@@ -6,4 +6,4 @@ use Rattle.player.proofs.Player.any.Given as goal
 
 abbrev pub invariant-loop-k : goal.invariant-loop-k
 invariant-loop-k l =
-    ((e : Evening) (rest : List ℕ) → At l.initial.self e rest → Choosing l.seed l.-k l.generator.state e l.self rest) × (l.self.printer ≡ l.initial.self.printer)
+    ((e : Evening) (rest : List ℕ) → At l.initial.self e rest → Choosing l.seed l._k l.generator.state e l.self rest) × (l.self.printer ≡ l.initial.self.printer)

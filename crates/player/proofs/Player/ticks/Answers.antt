@@ -10,10 +10,10 @@ loop-k-init g c = λ e rest xs at printed. ticked-none g.S.Sink.took c.args.self
 pub loop-k-preserved : goal.loop-k-preserved
 loop-k-preserved g c =
     λ e rest xs at printed.
-    ticked-more g.S.Sink.took c.loop-k.-k e c.loop-k.self _ c.loop-k.out _ rest xs c.tick-whose.result.0 c.tick-whose.result.1 (c.loop-k.invariant e rest xs at printed) c.tick-whose.ensures.may
+    ticked-more g.S.Sink.took c.loop-k._k e c.loop-k.self _ c.loop-k.out _ rest xs c.tick-whose.result.0 c.tick-whose.result.1 (c.loop-k.invariant e rest xs at printed) c.tick-whose.ensures.may
     c.tick-whose.ensures.had refl refl (c.in_ok-tick.ensures refl)
 
 pub returns : goal.returns
 returns g c =
-    let n : c.loop-k.-k ≡ c.args.many = omega arith in
+    let n : c.loop-k._k ≡ c.args.many = omega arith in
     λ _ e rest xs at printed. subst (λ (k : ℕ). Ticked g.S.Sink.took k e c.loop-k.self c.loop-k.out rest xs) n (c.loop-k.invariant e rest xs at printed)

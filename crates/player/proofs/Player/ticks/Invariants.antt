@@ -7,4 +7,4 @@ use Rattle.player.proofs.Player.ticks.Given as goal
 
 abbrev pub invariant-loop-k : goal.invariant-loop-k
 invariant-loop-k g l =
-    (e : Evening) (rest xs : List ℕ) → At l.initial.self e rest → Printed g.S.Sink.took l.initial.out l.initial.self.printer.page xs → Ticked g.S.Sink.took l.-k e l.self l.out rest xs
+    (e : Evening) (rest xs : List ℕ) → At l.initial.self e rest → Printed g.S.Sink.took l.initial.out l.initial.self.printer.page xs → Ticked g.S.Sink.took l._k e l.self l.out rest xs

@@ -17,7 +17,7 @@ loop-i-preserved c =
 
 pub invariant_of-result : goal.invariant_of-result
 unfolding legal
-invariant_of-result c = (refl, (omega arith, (omega arith, (tt, tt))))
+invariant_of-result c = record { sized = refl; within = omega arith; room = omega arith; lawful = tt }
 
 pub returns : goal.returns
 returns c =

@@ -6,20 +6,14 @@ use Rattle.memory.proofs.Runs.{legal-push}
 use Rattle.memory.proofs.recorder.Recorder.record.Goals as goal
 
 pub invariant_of-self : goal.invariant_of-self
-invariant_of-self c = (
-  rw length-set c.args.self.now.sized,
-  (
-    c.args.self.now.within,
-    (
-      rw length-set (omega arith),
-      (
-        rw (take_more_set c.args.self.now.log c.args.self.now.used c.args.entry c.requires.0)
-            (legal-push empty (take c.args.self.now.used c.args.self.now.log) c.args.entry c.args.self.now.lawful c.requires.1),
-        tt,
-      ),
-    ),
-  ),
-)
+invariant_of-self c =
+    record {
+      sized = rw length-set c.args.self.now.sized;
+      within = c.args.self.now.within;
+      room = rw length-set (omega arith);
+      lawful = rw (take_more_set c.args.self.now.log c.args.self.now.used c.args.entry c.requires.0)
+          (legal-push empty (take c.args.self.now.used c.args.self.now.log) c.args.entry c.args.self.now.lawful c.requires.1);
+    }
 
 pub returns : goal.returns
 returns c =
