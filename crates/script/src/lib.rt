@@ -6,7 +6,7 @@ mod digits;
 pub mod generator;
 pub mod laws;
 pub mod line;
-mod page;
+pub mod page;
 pub mod printer;
 pub mod sink;
 pub mod word;

@@ -61,7 +61,22 @@ impl Span {
         }
     }
 
-    pub(crate) fn got(self) -> u32
+    // How many ticks of it are to come.
+    pub fn ends(self) -> u32
+        ensures { result ≡ self.ends }
+    {
+        self.ends as u32
+    }
+
+    // Its task wanted every tick of it until now.
+    pub fn is_whole(self) -> bool
+        ensures { result ≡ self.whole }
+    {
+        self.whole
+    }
+
+    // How many ticks of it were had.
+    pub fn got(self) -> u32
         ensures { result ≡ self.got }
     {
         self.got as u32
