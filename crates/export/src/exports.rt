@@ -19,8 +19,7 @@ const REFUSED: u64 = u64::MAX;
 
 // Plays the script as the program does, into the transcript from its start. How many bytes were written, or `REFUSED` if there
 // is no room for all of them; what the transcript then holds isn't promised.
-#[unsafe(no_mangle)]
-pub extern "C" fn wendrifoy_play(script: &[u8], transcript: &mut [u8]) -> u64
+pub fn wendrifoy_play(script: &[u8], transcript: &mut [u8]) -> u64
     ensures { (result ≡ 18446744073709551615) ⊎ Transcribed script.now transcript.old transcript.new result }
 {
     let mut out = Transcript::new(transcript);
@@ -31,8 +30,7 @@ pub extern "C" fn wendrifoy_play(script: &[u8], transcript: &mut [u8]) -> u64
 }
 
 // The number of the first step that isn't a good one, from 0; if all are, how many there are.
-#[unsafe(no_mangle)]
-pub extern "C" fn wendrifoy_first_bad(steps: &[WireStep]) -> u64
+pub fn wendrifoy_first_bad(steps: &[WireStep]) -> u64
     ensures { FirstBad steps.now result }
 {
     first_bad(steps) as u64
@@ -40,8 +38,7 @@ pub extern "C" fn wendrifoy_first_bad(steps: &[WireStep]) -> u64
 
 // The hours of these steps, as far as there is room in the log. How many entries were written from its start, or `REFUSED` if one
 // of the steps isn't good: then nothing is played.
-#[unsafe(no_mangle)]
-pub extern "C" fn wendrifoy_hours(steps: &[WireStep], log: &mut [WireEntry]) -> u64
+pub fn wendrifoy_hours(steps: &[WireStep], log: &mut [WireEntry]) -> u64
     ensures { Refused steps.now log.old log.new result ⊎ AllGood steps.now }
 {
     if first_bad(steps) < steps.len() {
@@ -58,8 +55,7 @@ fn run<'a>(steps: &'a [WireStep], log: &'a mut [WireEntry]) -> usize {
 }
 
 // The same by a loop of its own, which is proved to leave a legal run in the log.
-#[unsafe(no_mangle)]
-pub extern "C" fn wendrifoy_record(steps: &[WireStep], log: &mut [WireEntry]) -> u64
+pub fn wendrifoy_record(steps: &[WireStep], log: &mut [WireEntry]) -> u64
     ensures { Refused steps.now log.old log.new result ⊎ (AllGood steps.now × Kept steps.now log.old log.new result) }
 {
     if first_bad(steps) < steps.len() {

@@ -1,5 +1,5 @@
 -- Runs grow at their end: one more entry, one more step answered. And the test on a log says just what the relation says.
-use Rattle.std.proofs.Common.{◌≡◌, ℕ, ◌<◌, true, T, eqb, List, [], ◌∷◌, ◌++◌, length, get_or, Option, refl, ap, subst, arith, eqb→eq}
+use Rattle.std.proofs.Common.{◌≡◌, ℕ, ◌<◌, true, T, List, [], ◌∷◌, ◌++◌, length, get_or, Option, refl, ap, subst, arith, eqb→eq}
 use lib.Dec.{eqb_refl}
 use Rattle.sched.specs.declared.Call.{Call}
 use Rattle.sched.specs.declared.Answer.{Answer}
@@ -9,7 +9,7 @@ use Rattle.sched.proofs.Tests.{and_T, and-left-T, and-right-T}
 use Rattle.memory.specs.declared.entry.Entry.{Entry}
 use Rattle.memory.specs.declared.entry.Entry.TheVariants.{Ran, Called}
 use Rattle.memory.specs.declared.entry.Step.{Step}
-use Rattle.memory.specs.Run.{Run, over, called, ran, Answers, tick, call, Follows, none, more, entered, outcome, same_answer, allowed, legal}
+use Rattle.memory.specs.Run.{Run, over, called, ran, Answers, Follows, none, more, entered, outcome, same_answer, allowed, legal}
 
 -- THE TEST ON ANSWERS
 same-answer-refl : (a : Answer) → T (same_answer a a)

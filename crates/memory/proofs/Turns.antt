@@ -9,7 +9,7 @@ use Rattle.sched.specs.Stores.{Holds}
 use Rattle.memory.specs.declared.entry.Entry.{Entry}
 use Rattle.memory.specs.declared.entry.Entry.TheVariants.{Ran, Called}
 use Rattle.memory.specs.declared.entry.Step.{Step}
-use Rattle.memory.specs.declared.entry.Step.TheVariants.{Tick, Calls}
+use Rattle.memory.specs.declared.entry.Step.TheVariants.{Tick}
 use Rattle.memory.specs.declared.lent.LentRecorder.{LentRecorder}
 use Rattle.memory.specs.Run.{Answers, tick, call, entered, allowed, outcome}
 use Rattle.memory.specs.Played.{Asks}

@@ -5,7 +5,7 @@ use Rattle.sched.specs.declared.Kind.{Kind}
 use Rattle.sched.specs.declared.Call.TheVariants.{Make}
 use Rattle.sched.specs.declared.Answer.{Answer}
 use Rattle.sched.specs.declared.Answer.TheVariants.{Id, No}
-use Rattle.sched.specs.House.{House, A, is_nobody, good, some', sum, share_of, share_of_kind, new_at, calls}
+use Rattle.sched.specs.House.{House, is_nobody, good, some', sum, share_of, share_of_kind, new_at, calls}
 use Rattle.sched.proofs.Tests.{T_true}
 use Rattle.sched.proofs.model.Places.{is-nobody, nobody-is}
 use Rattle.sched.proofs.Bounded.{some-from, first-is, first_below, first-least}

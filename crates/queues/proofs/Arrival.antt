@@ -3,7 +3,7 @@ use Rattle.std.proofs.Common.{◌≡◌, ℕ, ◌<◌, ◌≤◌, ◌⊎◌, Lis
 use Rattle.std.proofs.lemmas.Bool.{cases_eq, eq-eqb, ne_eqb}
 use Rattle.queues.specs.declared.fifo.Queues.{Queues}
 use Rattle.queues.specs.Members.{Member, Free, times, put}
-use Rattle.queues.specs.Rings.{Holds, Linked, Ring, after, before, place_of}
+use Rattle.queues.specs.Rings.{Holds, Linked, Ring, before, place_of}
 use Rattle.queues.specs.Writes.{set_place, joined, appended}
 use Rattle.queues.proofs.Lists.{times_none, member-push, push-member, push-last, times-push}
 use Rattle.queues.proofs.Writes.{Sized, sized, Apart, Joins, joins, apart-after, place-leaves, place_here, place-else, place-sized}

@@ -1,17 +1,17 @@
 -- Whose the tick is: from the candidates of the kinds, in their order, to what the rules allow, and on to the house after the tick.
-use Rattle.std.proofs.Common.{◌≡◌, ℕ, suc, ◌+◌, ◌-◌, ◌<◌, ◌≤◌, Bool, true, false, cond, not, ◌&&◌, T, eqb, ltb, ◌⊎◌, List, [], ◌∷◌, Some, None, Option, sym, refl, ap, ◌∙◌, subst, inl, inr, ⊎_elim, arith, MatchOption}
-use Rattle.std.proofs.lemmas.Bool.{cases_eq, cases_Bool, and_parts, and_from, and_left, and_right, and_cases, not_from_false, both_ways, eq-eqb, ne_eqb, lt-ltb, cond-true, cond-false}
+use Rattle.std.proofs.Common.{◌≡◌, ℕ, suc, ◌-◌, ◌<◌, ◌≤◌, Bool, true, false, cond, not, ◌&&◌, T, eqb, ltb, List, Some, None, Option, sym, refl, ◌∙◌, subst, ⊎_elim, arith, MatchOption}
+use Rattle.std.proofs.lemmas.Bool.{cases_eq, and_from, and_left, and_right, and_cases, not_from_false, both_ways, eq-eqb, ne_eqb, lt-ltb, cond-true, cond-false}
 use Rattle.quantities.specs.declared.ids.TaskId.{TaskId}
 use Rattle.queues.specs.Rings as queue
 use Rattle.queues.specs.declared.fifo.Queues.{Queues}
 use Rattle.queues.proofs.Standing.{holds_same}
 use Rattle.sched.specs.declared.Scheduler.{Scheduler}
-use Rattle.sched.specs.House.{House, Place, Nobody, A, Kept, Window, Shut, Open, some', is_fixed, is_task, rank_of, weight_of, wants, due, rank_wants, fair_wants, least_far, top_rank, in_turn, may_take, may_rest, may_run, opened, passed, freed, ticked, after, kept, runner, number_of}
+use Rattle.sched.specs.House.{House, Place, Nobody, A, Kept, Window, Shut, Open, some', is_fixed, rank_of, wants, due, rank_wants, fair_wants, least_far, top_rank, in_turn, may_take, may_rest, may_run, opened, freed, ticked, after, kept, runner, number_of}
 use Rattle.sched.specs.Promise.{Comes}
 use Rattle.sched.specs.Policy.{whole_due, WholeFirst, may_have}
 use Rattle.sched.specs.Windows.{ends_of, is_whole}
 use Rattle.sched.specs.Quotas.{Quotas}
-use Rattle.sched.specs.Stores.{Stores, Holds, owner_of, keep, of_rank}
+use Rattle.sched.specs.Stores.{Stores, Holds, owner_of, of_rank}
 use Rattle.sched.specs.Begun.{LeastHas}
 use Rattle.sched.specs.Midtick.{SoonestDue, FirstInTurn, fixed_wants, Chosen}
 use Rattle.sched.proofs.Tests.{T_true, true-T, and_T, and-left-T}

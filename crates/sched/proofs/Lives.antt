@@ -1,12 +1,10 @@
 -- What the crate of windows says of one, in the words of the rules.
-use Rattle.std.proofs.Common.{◌≡◌, ℕ, zero, suc, ◌+◌, ◌<◌, ◌≤◌, Bool, true, false, cond, not, ◌&&◌, ◌||◌, ltb, sym, refl, ap, ◌∙◌, true≢false, arith}
+use Rattle.std.proofs.Common.{◌≡◌, ℕ, zero, suc, Bool, true, false, cond, sym, refl, ap, ◌∙◌, true≢false}
 use mathlib.Core.Bool.{false≢true}
-use Rattle.std.proofs.lemmas.Bool.{cond_both, cond-true, cond-false}
 use Rattle.windows.specs.Life as life
 use Rattle.windows.specs.declared.Window as code-window
 use Rattle.windows.specs.declared.Window.TheVariants as window-is
-use Rattle.sched.specs.declared.Kind.TheVariants.{Reserved}
-use Rattle.sched.specs.House.{Place, Nobody, A, Kept, Window, Shut, Open, open_with, open_kept, passed, got_of, leaves, is_reserved, quota_of, period_of}
+use Rattle.sched.specs.House.{Place, Nobody, Kept, Window, Shut, Open, open_with, open_kept, passed, got_of, leaves, is_reserved, quota_of, period_of}
 use Rattle.sched.specs.Stores.{window_of, reserved_place}
 
 -- a window by its numbers, as the rules have it

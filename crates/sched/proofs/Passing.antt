@@ -1,7 +1,7 @@
 -- Windows and places through a tick, one after the other: what is written at a place is what the rules say of it.
-use Rattle.std.proofs.Common.{◌≡◌, ℕ, suc, ◌+◌, ◌<◌, ◌≤◌, Bool, true, false, cond, eqb, List, Some, None, Option, sym, refl, ap, ◌∙◌, true≢false, arith}
+use Rattle.std.proofs.Common.{◌≡◌, ℕ, suc, ◌+◌, Bool, true, false, cond, eqb, List, Some, None, Option, sym, refl, ap, ◌∙◌, arith}
 use mathlib.Core.Bool.{false≢true}
-use Rattle.std.proofs.lemmas.Bool.{ne_eqb, eq-eqb, cases_eq}
+use Rattle.std.proofs.lemmas.Bool.{ne_eqb}
 use Rattle.std.proofs.lemmas.Bool.Decides.{nat_tests}
 use Rattle.quantities.specs.declared.ids.TaskId.{TaskId}
 use Rattle.windows.specs.Life as life
@@ -9,10 +9,10 @@ use Rattle.windows.specs.declared.Window as code-window
 use Rattle.windows.specs.declared.Window.TheVariants as window-is
 use Rattle.sched.specs.declared.tasks.Slot.{Slot}
 use Rattle.sched.specs.declared.tasks.Slot.TheVariants as slot
-use Rattle.sched.specs.House.{House, Place, Nobody, A, Kept, Window, Shut, Open, put, is_reserved, period_of, open_with, open_kept, windowed, passed, freed, ticked}
+use Rattle.sched.specs.House.{House, Place, Nobody, Window, Shut, Open, put, is_reserved, period_of, open_with, open_kept, windowed, passed, freed, ticked}
 use Rattle.sched.specs.Stores.{Reads, place_of, window_of, owner_of, reserved_place}
-use Rattle.sched.proofs.Lives.{read, window-read, begin-told, kept-told, pass-told, shut-told}
-use Rattle.sched.proofs.Upto.{upto, upto_from, upto-more, upto_all, reads-past}
+use Rattle.sched.proofs.Lives.{read, window-read, begin-told, kept-told}
+use Rattle.sched.proofs.Upto.{upto, upto_from, upto-more}
 
 -- THE TICK BEGINS
 module _ (w r : code-window.Window) (p : Place) (v : Bool) (x : Window) where

@@ -1,7 +1,7 @@
 -- The turns of the ranks, one after the other: the first rank of which one wants, and its first, are those that the rules name.
-use Rattle.std.proofs.Common.{◌≡◌, ℕ, suc, ◌+◌, ◌<◌, Bool, true, false, cond, ◌&&◌, eqb, ◌⊎◌, get_or, is_some, Some, None, Option, sym, refl, ap, ◌∙◌, inl, inr, ⊎_elim, true≢false, arith, MatchOption}
+use Rattle.std.proofs.Common.{◌≡◌, ℕ, ◌<◌, true, false, ◌&&◌, eqb, get_or, is_some, Some, None, Option, sym, refl, ap, ◌∙◌, ⊎_elim, true≢false, arith, MatchOption}
 use mathlib.Core.Bool.{false≢true}
-use Rattle.std.proofs.lemmas.Bool.{cases_eq, cases_Bool, and_parts, and_from, both_ways, eq-eqb}
+use Rattle.std.proofs.lemmas.Bool.{cases_Bool, and_parts, and_from, both_ways, eq-eqb}
 use Rattle.quantities.specs.declared.ids.TaskId.{TaskId}
 use Rattle.sched.specs.declared.promise.Promise.TheVariants as promised
 use Rattle.sched.specs.declared.tasks.Tasks.{Tasks}

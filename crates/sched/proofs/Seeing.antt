@@ -1,5 +1,5 @@
 -- Who wants, from what is kept: a task whose runner is awake, since a runner doesn't wait.
-use Rattle.std.proofs.Common.{◌≡◌, ℕ, suc, ◌<◌, ◌≤◌, Bool, true, false, ◌&&◌, eqb, ltb, get_or, sym, refl, ap, ◌∙◌, inl, inr, ⊎_elim, arith}
+use Rattle.std.proofs.Common.{◌≡◌, ℕ, ◌<◌, ◌≤◌, Bool, true, false, ◌&&◌, eqb, ltb, get_or, sym, refl, ap, ◌∙◌, ⊎_elim}
 use Rattle.std.proofs.lemmas.Bool.{and_left, and_cases, eq-eqb, ltb-false}
 use Rattle.sched.specs.declared.Scheduler.{Scheduler}
 use Rattle.sched.specs.declared.tasks.Tasks.{Tasks}
@@ -8,8 +8,8 @@ use Rattle.sched.specs.declared.wants.Wants as code-wants
 use Rattle.sched.specs.declared.locks.Locks.{Locks}
 use Rattle.sched.specs.House.{House, is_task, wants, runner, opened}
 use Rattle.sched.specs.Promise.{Comes}
-use Rattle.sched.specs.Stores.{Holds, Reads, place_of, place_at}
-use Rattle.sched.specs.Midtick.{SlotsOf, WantsOf, Seen}
+use Rattle.sched.specs.Stores.{Holds, place_of, place_at}
+use Rattle.sched.specs.Midtick.{WantsOf, Seen}
 use Rattle.sched.proofs.Arrays.{reads-like}
 use Rattle.sched.proofs.Told.{holds-locked}
 use Rattle.sched.proofs.Upto.{reads-past}

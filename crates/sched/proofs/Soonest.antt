@@ -1,14 +1,13 @@
 -- Of windows that are due, one that is served before all others: why the best of all places, found one after the other, keeps the policy.
-use Rattle.std.proofs.Common.{◌≡◌, ℕ, suc, ◌+◌, ◌<◌, ◌≤◌, Bool, true, false, cond, not, ◌&&◌, ◌||◌, T, ltb, ◌⊎◌, Some, None, Option, sym, refl, ap, ◌∙◌, inl, inr, ⊎_elim, true≢false, arith, below_more, MatchOption}
+use Rattle.std.proofs.Common.{◌≡◌, ℕ, ◌+◌, ◌<◌, ◌≤◌, Bool, true, false, ◌&&◌, ltb, Some, None, Option, sym, refl, ◌∙◌, ⊎_elim, true≢false, arith, below_more, MatchOption}
 use mathlib.Core.Bool.{false≢true}
-use Rattle.std.proofs.lemmas.Bool.{cases_eq, cases_Bool, and_from, and_parts, and_left, lt-ltb, le-ltb, ltb-true, ltb-false, both_ways}
+use Rattle.std.proofs.lemmas.Bool.{cases_Bool, lt-ltb, le-ltb, ltb-true, ltb-false, both_ways}
 use Rattle.quantities.specs.declared.ids.TaskId.{TaskId}
 use Rattle.windows.specs.Life as life
 use Rattle.windows.specs.declared.Window as code-window
-use Rattle.sched.specs.House.{House, Place, Window, Shut, Open, Nobody, is_reserved, quota_of, got_of, wants, some', due}
+use Rattle.sched.specs.House.{House, Place, Window, Shut, Open, Nobody, is_reserved, quota_of, got_of, some', due}
 use Rattle.sched.specs.Stores.{window_of, reserved_place}
 use Rattle.sched.specs.Midtick.{sooner_than, BestBelow, SoonestDue}
-use Rattle.sched.specs.Policy.{whole_due}
 use Rattle.sched.specs.Windows.{ends_of, is_whole}
 use Rattle.sched.proofs.Tests.{T_true, true-T, and_T, and-left-T, and-right-T}
 use Rattle.sched.proofs.Bounded.{none_from}

@@ -1,21 +1,21 @@
 -- The turn of each rank is the turn of all, of which only that rank counts: kept when a task is made or ends, and when one goes to the end.
-use Rattle.std.proofs.Common.{◌≡◌, ℕ, suc, ◌+◌, ◌-◌, ◌<◌, ◌≤◌, Bool, true, false, cond, ◌&&◌, eqb, ◌⊎◌, List, [], ◌∷◌, ◌++◌, sym, refl, ap, ◌∙◌, subst, inl, inr, ⊎_elim, arith}
-use Rattle.std.proofs.lemmas.Bool.{cond_both, cond-true, cond-false, cases_eq, cases_Bool, and_parts, and_from, and_left, and_right, eq-eqb, ne_eqb, eqb-true, both_ways}
+use Rattle.std.proofs.Common.{◌≡◌, ℕ, suc, ◌-◌, ◌<◌, Bool, true, false, cond, ◌&&◌, eqb, List, [], ◌∷◌, ◌++◌, sym, refl, ap, ◌∙◌, subst, inl, inr, arith}
+use Rattle.std.proofs.lemmas.Bool.{cond_both, cases_eq, and_parts, and_from, eq-eqb, ne_eqb, eqb-true, both_ways}
 use Rattle.queues.specs.Members as member
 use Rattle.queues.specs.Rings as queue
-use Rattle.queues.specs.Outcomes.{Pushed, Removed, Moved}
+use Rattle.queues.specs.Outcomes.{Pushed, Moved}
 use Rattle.queues.specs.declared.fifo.Queues.{Queues}
 use Rattle.queues.proofs.Standing.{holds_same}
 use Rattle.queues.proofs.Lists.{without-none}
 use Rattle.quantities.specs.declared.promises.Rank.{Rank}
 use Rattle.sched.specs.declared.promise.Promise.{Promise}
 use Rattle.sched.specs.declared.promise.Promise.TheVariants as promised
-use Rattle.sched.specs.House.{Place, is_fixed, is_task, rank_of, without, put}
+use Rattle.sched.specs.House.{Place, is_fixed, rank_of, without, put}
 use Rattle.sched.specs.Promise.{times}
 use Rattle.sched.specs.Stores.{keep, of_rank, kind_of, task_place, fixed_place}
 use Rattle.sched.specs.Turns.{OnceInTurn, turn_after}
 use Rattle.sched.proofs.Puts.{put-here, put-else}
-use Rattle.sched.proofs.Keep.{without-same, member-times, times-member, keep-member, member-keep, keep-push, keep_same, keep-without}
+use Rattle.sched.proofs.Keep.{without-same, times-member, keep-member, member-keep, keep-push, keep_same, keep-without}
 use Rattle.sched.proofs.model.Turn.{fixed-task}
 
 -- the turn of each rank

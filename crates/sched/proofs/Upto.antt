@@ -1,10 +1,10 @@
 -- A loop that writes each place in turn: below k the array is as it should be, from k on as it was.
-use Rattle.std.proofs.Common.{◌≡◌, ℕ, ◌+◌, ◌<◌, ◌≤◌, Bool, true, false, cond, eqb, ltb, ◌⊎◌, List, get_or, set, sym, ap, ◌∙◌, subst, inl, inr, ⊎_elim, arith}
+use Rattle.std.proofs.Common.{◌≡◌, ℕ, ◌+◌, ◌<◌, ◌≤◌, cond, ltb, List, get_or, set, sym, ap, ◌∙◌, subst, inl, inr, arith}
 use Rattle.std.proofs.lemmas.List.{get_or_past}
-use Rattle.std.proofs.lemmas.Bool.{cond_both, cond-true, cond-false, lt-ltb, le-ltb, cases_eq, cases_lt, eqb-true, eqb-false}
+use Rattle.std.proofs.lemmas.Bool.{cond-true, cond-false, lt-ltb, le-ltb, cases_eq, cases_lt}
 use Rattle.sched.specs.House.{put}
 use Rattle.sched.specs.Stores.{Reads}
-use Rattle.sched.proofs.Puts.{put-here, put-else, put_both}
+use Rattle.sched.proofs.Puts.{put-here, put-else}
 use Rattle.sched.proofs.Arrays.{reads-set, reads-like}
 
 -- new below n, old from there on

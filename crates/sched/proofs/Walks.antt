@@ -1,6 +1,6 @@
 -- Walking along a queue to the first who passes a test: it is `in_turn`, and 64 steps are enough, since nobody stands there twice.
-use Rattle.std.proofs.Common.{◌≡◌, ℕ, zero, suc, ◌+◌, ◌<◌, ◌≤◌, Bool, true, false, cond, ◌&&◌, eqb, ◌⊎◌, List, [], ◌∷◌, ◌++◌, length, Some, None, Option, sym, refl, ap, ◌∙◌, subst, inl, inr, ⊎_elim, append_assoc, arith, length-append}
-use Rattle.std.proofs.lemmas.Bool.{cond_both, cond-true, cond-false, eq-eqb, eqb-true, eqb-false, ne_eqb, cases_eq}
+use Rattle.std.proofs.Common.{◌≡◌, ℕ, zero, suc, ◌+◌, ◌<◌, ◌≤◌, Bool, true, false, cond, ◌&&◌, eqb, List, [], ◌∷◌, ◌++◌, length, Some, None, Option, sym, refl, ap, ◌∙◌, subst, inl, inr, append_assoc, arith, length-append}
+use Rattle.std.proofs.lemmas.Bool.{cond_both, cond-true, cond-false, ne_eqb, cases_eq}
 use Rattle.quantities.specs.declared.ids.TaskId.{TaskId}
 use Rattle.queues.specs.Members as member
 use Rattle.queues.specs.Rings as queue
@@ -10,7 +10,6 @@ use Rattle.queues.proofs.Lists.{member-without, not-without, times-without}
 use Rattle.sched.specs.House.{in_turn}
 use Rattle.sched.specs.Promise.{times}
 use Rattle.sched.specs.Stores.{owner_of, keep}
-use Rattle.sched.proofs.Keep.{member-times}
 
 -- the first who passes two tests, of all, or of those who pass one of them
 pub turn-kept : (f g : ℕ → Bool) (l : List ℕ) → in_turn g (keep f l) ≡ in_turn (λ i. f i && g i) l

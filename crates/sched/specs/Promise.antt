@@ -1,10 +1,9 @@
 -- What is promised beside the main promise, and may be bettered.
 -- Assumes nothing.
-use Rattle.std.specs.Prelude.{◌≡◌, ℕ, zero, suc, ◌+◌, ◌-◌, ◌*◌, ◌/◌, ◌<◌, ◌≤◌, Bool, true, false, cond, not, ◌&&◌, ◌||◌, T, ◌⊎◌, List, [], ◌∷◌, ◌++◌, length, Some, None, ◌==◌}
+use Rattle.std.specs.Prelude.{◌≡◌, ℕ, suc, ◌+◌, ◌*◌, ◌<◌, ◌≤◌, Bool, true, cond, not, ◌&&◌, T, List, [], ◌∷◌, ◌==◌}
 use Rattle.sched.specs.declared.Call.{Call}
 use Rattle.sched.specs.declared.Call.TheVariants.{Make, End, Wake, Sleep, Lock, Unlock}
-use Rattle.sched.specs.declared.Answer.{Answer}
-use Rattle.sched.specs.House.{House, Place, empty, is_task, share_of, sum, runner, wants, calls, may_run, after, opened, fair_wants, number_of, weight_of}
+use Rattle.sched.specs.House.{House, empty, is_task, share_of, sum, runner, calls, may_run, after, opened, fair_wants, number_of, weight_of}
 
 -- what can have come about
 pub data Comes : House → Type 0 where

@@ -1,12 +1,11 @@
 -- The text of an answer says which it is.
-use Rattle.std.proofs.Common.{◌≡◌, ℕ, ◌^◌, ◌<◌, Bool, true, false, cond, eqb, List, [], ◌∷◌, ◌++◌, length, get_or, drop, is_some, Some, None, codes, decimal, Option, sym, refl, ap, ◌∙◌, ⊎_elim, arith}
+use Rattle.std.proofs.Common.{◌≡◌, ℕ, ◌^◌, ◌<◌, Bool, true, false, cond, eqb, List, [], ◌∷◌, ◌++◌, length, get_or, drop, Some, None, codes, decimal, sym, refl, ap, ◌∙◌, arith}
 use Rattle.std.proofs.lemmas.Fmt.{decimal_injective, digits_decimal}
-use Rattle.std.proofs.lemmas.Bool.{cases_Bool, cond-true, cond-false, eqb-true, both_ways, true≢false, false≢true}
-use Rattle.sched.specs.declared.Answer.{Answer}
+use Rattle.std.proofs.lemmas.Bool.{eqb-true, false≢true}
 use Rattle.sched.specs.declared.Answer.TheVariants.{Done, Id, No}
 use Rattle.script.specs.Grammar.{words, all_digits}
-use Rattle.script.specs.Text.{answer_text, tick_text}
-use Rattle.script.specs.Laws.{AnswersApart, TicksApart, TickFits}
+use Rattle.script.specs.Text.{tick_text}
+use Rattle.script.specs.Laws.{AnswersApart, TicksApart}
 use Rattle.script.proofs.Parsing.{numerals, number_word}
 use Rattle.script.proofs.Splitting.{words-space}
 

@@ -1,7 +1,7 @@
 -- What digits come to as a byte is put after them.
 use Rattle.std.proofs.Common.{◌≡◌, ℕ, ◌+◌, ◌-◌, ◌*◌, ◌^◌, ◌<◌, ◌≤◌, Bool, true, false, cond, ◌&&◌, ltb, leb, ◌⊎◌, List, [], ◌∷◌, ◌++◌, Some, None, Option, sym, refl, ap, ◌∙◌, inl, inr, ⊎_elim, arith}
 use mathlib.Core.Bool.{and-true, and_assoc}
-use Rattle.std.proofs.lemmas.Bool.{and_parts, cases_Bool, and_cases, and_left, and_right, and_from, cond-true, cond-false, ltb-true, ltb-false, lt-ltb, le-ltb, lt-leb, le-leb}
+use Rattle.std.proofs.lemmas.Bool.{and_parts, and_cases, and_left, and_right, and_from, cond-true, cond-false, ltb-true, ltb-false, lt-ltb, le-ltb, lt-leb, le-leb}
 use Rattle.std.specs.Option.{SomeIff}
 use Rattle.script.specs.Grammar.{is_digit, all_digits, value_after, value_of}
 

@@ -1,6 +1,6 @@
 -- What is written of a command is read as that command.
-use Rattle.std.proofs.Common.{◌≡◌, ℕ, suc, ◌+◌, ◌-◌, ◌^◌, ◌<◌, Bool, true, false, cond, ◌&&◌, eqb, leb, List, [], ◌∷◌, ◌++◌, length, Some, None, codes, decimal, Option, sym, refl, ap, ◌∙◌, subst, arith, rules}
-use Rattle.std.proofs.lemmas.Str.Parse.{IsNumeralModel, IsDigitsTest, FoldsDigits, numerals_by_fold}
+use Rattle.std.proofs.Common.{◌≡◌, ℕ, ◌^◌, ◌<◌, true, false, cond, eqb, leb, List, [], ◌∷◌, ◌++◌, length, Some, codes, decimal, Option, refl, ap, ◌∙◌, arith, rules}
+use Rattle.std.proofs.lemmas.Str.Parse.{IsNumeralModel, numerals_by_fold}
 use Rattle.std.proofs.lemmas.Fmt.{digits_decimal, digits_value-decimal, decimal_nonempty}
 use Rattle.std.proofs.lemmas.Bool.{and_parts, leb-true, ne_eqb}
 use Rattle.sched.specs.declared.Kind.{Kind}
@@ -9,8 +9,8 @@ use Rattle.sched.specs.declared.Call.{Call}
 use Rattle.sched.specs.declared.Call.TheVariants.{Make, End, Wake, Sleep, Lock, Unlock}
 use Rattle.script.specs.declared.command.Command.{Command}
 use Rattle.script.specs.declared.command.Command.TheVariants.{Call as Calls, Tick, Had, Any}
-use Rattle.script.specs.Grammar.{on_first, words, is_digit, all_digits, value_after, value_of, number_of, with, of_words, command_of, one_word, two_words, three_words, four_words}
-use Rattle.script.specs.Laws.{kind_text, call_text, command_text, two_numbers, KindFits, CallFits, CommandFits, PrintedCommandsParse}
+use Rattle.script.specs.Grammar.{on_first, words, is_digit, all_digits, value_after, value_of, number_of, with, of_words, command_of}
+use Rattle.script.specs.Laws.{kind_text, call_text, command_text, two_numbers, KindFits, CallFits, PrintedCommandsParse}
 use Rattle.script.proofs.Numbers.{value_of-reads}
 use Rattle.script.proofs.Splitting.{words-space}
 

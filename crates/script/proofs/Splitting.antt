@@ -1,5 +1,5 @@
 -- How the words of a line grow with its bytes.
-use Rattle.std.proofs.Common.{◌≡◌, ℕ, zero, suc, ◌+◌, ◌<◌, Bool, true, false, cond, eqb, List, [], ◌∷◌, ◌++◌, length, get_or, set, sym, refl, ap, ◌∙◌, arith}
+use Rattle.std.proofs.Common.{◌≡◌, ℕ, zero, suc, ◌+◌, ◌<◌, true, false, cond, eqb, List, [], ◌∷◌, ◌++◌, length, get_or, set, sym, refl, ap, ◌∙◌, arith}
 use Rattle.script.specs.Grammar.{on_first, words}
 
 length-on_first : (b : ℕ) (ws : List (List ℕ)) → 0 < length ws → length (on_first b ws) ≡ length ws

@@ -5,7 +5,7 @@ use Rattle.sched.specs.declared.Kind.TheVariants.{Reserved, Fixed, Fair}
 use Rattle.sched.specs.declared.Call.{Call}
 use Rattle.sched.specs.declared.Call.TheVariants.{Make, End, Wake, Sleep, Lock, Unlock}
 use Rattle.sched.specs.declared.Next.{Next}
-use Rattle.sched.specs.declared.Next.TheVariants.{Calls, Tick, Over}
+use Rattle.sched.specs.declared.Next.TheVariants.{Calls, Tick}
 
 -- what was drawn, and the generator's number after it
 pub data Drawn (X : Type 0) : Type 0 where

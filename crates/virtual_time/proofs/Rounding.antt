@@ -1,5 +1,5 @@
 -- A rest in parts of another weight, rounded up: at most a whole, and not behind.
-use Rattle.std.proofs.Common.{ℕ, ◌+◌, ◌-◌, ◌*◌, ◌/◌, ◌<◌, ◌≤◌, mul-le-mul_right, mul_comm, add-mul, mul-add, arith}
+use Rattle.std.proofs.Common.{ℕ, ◌+◌, ◌-◌, ◌*◌, ◌<◌, ◌≤◌, mul-le-mul_right, mul_comm, add-mul, mul-add, arith}
 use native.Mathlib.Nat.{lt-mul-div-succ}
 use Rattle.std.proofs.lemmas.Nat.{div_below}
 use Rattle.virtual_time.specs.Positions.{up_rest}

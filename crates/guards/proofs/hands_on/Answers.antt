@@ -1,4 +1,4 @@
-use mathlib.Core.Path.{◌≡◌, ap, ◌∙◌, subst}
+use mathlib.Core.Path.{ap, ◌∙◌, subst}
 use borrow.Author.Rules.{rules}
 use Rattle.quantities.specs.declared.ids.LockId.{LockId}
 use Rattle.sched.specs.declared.Scheduler.{Scheduler}

@@ -1,10 +1,10 @@
 -- A task that holds a lock and waits for nothing: it took the lock where it was free, others can't take it away, and it can give it back.
-use Rattle.std.proofs.Common.{◌≡◌, ℕ, suc, ◌-◌, ◌<◌, Bool, true, false, cond, not, ◌&&◌, ◌||◌, eqb, ltb, leb, List, [], ◌∷◌, ◌++◌, sym, refl, ap, ◌∙◌, subst, arith}
+use Rattle.std.proofs.Common.{◌≡◌, ℕ, suc, ◌-◌, ◌<◌, Bool, true, false, ◌&&◌, eqb, ltb, [], ◌∷◌, ◌++◌, sym, refl, ap, ◌∙◌, subst, arith}
 use Rattle.std.proofs.lemmas.Bool.{and_left, and_right, and_from, eq-eqb, eqb-true, eqb-false, not_from_true, or_from, lt-leb, cond_both, false≢true, true≢false}
 use Rattle.sched.specs.declared.Call.{Call}
 use Rattle.sched.specs.declared.Call.TheVariants.{Make, End, Wake, Sleep, Lock, Unlock}
 use Rattle.sched.specs.declared.Answer.TheVariants.{Done, No}
-use Rattle.sched.specs.House.{House, Place, Nobody, A, Out, out, no, put, is_task, is_a, first_of, rest_of, calls}
+use Rattle.sched.specs.House.{House, Place, A, Out, out, no, put, is_task, is_a, first_of, rest_of, calls}
 use Rattle.sched.specs.Held.{can_take, Held, Keeps, Taken, GivenBack, concerns}
 use Rattle.sched.specs.Refusals.{is_no}
 use Rattle.sched.proofs.Puts.{put-at, put-else, put_both}

@@ -1,12 +1,10 @@
 -- Whoever is there stands in the turn once, and nobody else does: so a new task isn't in it, and a fixed one that moves to its end was.
-use Rattle.std.proofs.Common.{◌≡◌, ℕ, suc, ◌+◌, ◌-◌, ◌<◌, Bool, true, false, cond, eqb, ◌⊎◌, List, [], ◌∷◌, ◌++◌, sym, refl, ap, ◌∙◌, inl, inr, ⊎_elim, arith}
-use Rattle.std.proofs.lemmas.Bool.{cond_both, cond-true, cond-false, cases_eq, eq-eqb, ne_eqb, eqb-true, eqb-false}
+use Rattle.std.proofs.Common.{◌≡◌, ℕ, suc, ◌+◌, ◌-◌, true, false, cond, eqb, List, [], ◌∷◌, ◌++◌, sym, refl, ap, ◌∙◌, inl, inr, arith}
+use Rattle.std.proofs.lemmas.Bool.{cond_both, cases_eq, eq-eqb, ne_eqb, eqb-true, eqb-false}
 use Rattle.std.proofs.lemmas.Bool.Decides.{nat_tests}
-use Rattle.sched.specs.declared.Kind.TheVariants.{Reserved, Fixed, Fair}
-use Rattle.sched.specs.House.{House, Place, Nobody, A, Kept, Out, put, is_task, is_fixed, passed, leaves, without, opened, after, number_of}
+use Rattle.sched.specs.House.{House, Place, Nobody, A, Kept, Out, put, is_task, is_fixed, passed, leaves, without, opened, number_of}
 use Rattle.sched.specs.Promise.{Comes, begin, called, ran, times}
 use Rattle.sched.specs.Turns.{OnceInTurn, turn_after}
-use Rattle.sched.proofs.Puts.{put-here, put-else}
 use Rattle.sched.proofs.model.CallWays.{Ways, call-ways}
 use Rattle.sched.proofs.model.Places.{leaves_none, freed-task}
 use Rattle.sched.proofs.model.Stands.{times-push}

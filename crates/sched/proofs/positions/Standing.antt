@@ -1,5 +1,5 @@
 -- Positions kept less a base: what a new scheduler keeps, and what is kept once a task is made or a place has changed.
-use Rattle.std.proofs.Common.{◌≡◌, ℕ, ◌+◌, ◌-◌, ◌*◌, ◌/◌, ◌%◌, ◌<◌, ◌≤◌, Bool, false, cond, ltb, ◌⊎◌, List, length, get_or, set, replicate, None, sym, refl, ap, ◌∙◌, subst, inl, ⊎_elim, add_assoc, div-le_self, arith}
+use Rattle.std.proofs.Common.{◌≡◌, ℕ, ◌+◌, ◌-◌, ◌*◌, ◌/◌, ◌%◌, ◌<◌, ◌≤◌, Bool, false, cond, ltb, List, length, get_or, set, replicate, None, sym, refl, ap, ◌∙◌, subst, inl, ⊎_elim, add_assoc, div-le_self, arith}
 use Rattle.std.proofs.lemmas.List.{length-set, length-replicate, get_or-set_same, get_or-set_other}
 use Rattle.std.proofs.lemmas.Bool.{cases_eq, lt-ltb}
 use Rattle.virtual_time.specs.declared.position.Position.{Position}

@@ -1,5 +1,5 @@
 -- A step that isn't good is answered before anything is played.
-use Rattle.std.proofs.Common.{false, sym, refl, ◌∙◌, inl, inr, arith}
+use Rattle.std.proofs.Common.{sym, refl, ◌∙◌, inl, inr, arith}
 use Rattle.std.proofs.lemmas.Bool.{false≢true}
 use Rattle.export.proofs.exports.wendrifoy_hours.Goals as goal
 

@@ -1,5 +1,5 @@
 -- Free places and shares are those of the house; then each part stores what it keeps of a new task.
-use Rattle.std.proofs.Common.{◌≡◌, true, false, sym, refl, ap, ◌∙◌, subst, arith}
+use Rattle.std.proofs.Common.{◌≡◌, sym, refl, ap, ◌∙◌, subst, arith}
 use Rattle.std.proofs.lemmas.Bool.{false≢true, lt-ltb, le-ltb}
 use Rattle.sched.specs.declared.Call.TheVariants.{Make}
 use Rattle.sched.specs.declared.Answer.TheVariants.{Id}

@@ -1,6 +1,6 @@
-use Rattle.std.proofs.Common.{◌≡◌, ap, ◌∙◌}
+use Rattle.std.proofs.Common.{ap, ◌∙◌}
 use Rattle.sched.specs.House.{in_turn}
-use Rattle.sched.specs.Stores.{keep, of_rank}
+use Rattle.sched.specs.Stores.{of_rank}
 use Rattle.sched.specs.Midtick.{asking}
 use Rattle.sched.proofs.TurnKept.{ranks}
 use Rattle.sched.proofs.Walks.{turn-kept}

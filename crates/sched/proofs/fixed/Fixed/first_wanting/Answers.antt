@@ -1,4 +1,4 @@
-use Rattle.std.proofs.Common.{◌≡◌, ℕ, List, sym, ap, ◌∙◌, subst, arith}
+use Rattle.std.proofs.Common.{◌≡◌, sym, ◌∙◌, subst, arith}
 use Rattle.queues.specs.Members as member
 use Rattle.queues.specs.Outcomes.{First}
 use Rattle.sched.specs.Midtick.{asking}

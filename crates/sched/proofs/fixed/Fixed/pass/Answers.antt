@@ -1,6 +1,4 @@
 use Rattle.sched.specs.Stores.{owner_of}
-use Rattle.sched.specs.Turns.{turn_after}
-use Rattle.queues.specs.Rings as queue
 use Rattle.sched.proofs.TurnKept.{ranks, passed-moved}
 use Rattle.sched.proofs.fixed.Fixed.pass.Goals as goal
 

@@ -1,8 +1,8 @@
 use Rattle.std.proofs.Common.{◌≡◌, ℕ, true, sym, ap, ◌∙◌, subst, MatchOption}
 use Rattle.sched.specs.declared.tasks.Slot.TheVariants as slot
-use Rattle.sched.specs.House.{House, due}
+use Rattle.sched.specs.House.{due}
 use Rattle.sched.specs.Stores.{place_of}
-use Rattle.sched.specs.Midtick.{sooner_than, SlotsOf, WantsOf, WindowsOf}
+use Rattle.sched.specs.Midtick.{sooner_than}
 use Rattle.sched.proofs.Soonest.{past-due, best-skip, best-keep, best-take}
 use Rattle.sched.proofs.Upto.{reads-past}
 use Rattle.sched.proofs.reserved.Reserved.better.Goals as goal

@@ -1,4 +1,4 @@
-use Rattle.std.proofs.Common.{◌≡◌, sym, ap, ◌∙◌}
+use Rattle.std.proofs.Common.{sym, ap, ◌∙◌}
 use Rattle.sched.specs.House.{wants}
 use Rattle.sched.specs.Stores.{place_of, window_of}
 use Rattle.sched.proofs.Soonest.{due-told}

@@ -1,5 +1,5 @@
 -- The counts one after the other.
-use Rattle.std.proofs.Common.{◌≡◌, ◌+◌, ◌<◌, ◌≤◌, length, None, arith}
+use Rattle.std.proofs.Common.{◌+◌, ◌<◌, ◌≤◌, length, None, arith}
 use Rattle.script.proofs.Pages.{wrote-more, counts-more, counts_all}
 use Rattle.script.proofs.page.Page.had.Goals as goal
 

@@ -1,6 +1,6 @@
 -- So many of the counts are written, each in at most 21 bytes.
-use Rattle.std.proofs.Common.{◌+◌, ◌*◌, ◌≤◌, length, take}
-use Rattle.script.specs.Printed.{Wrote, Roomy}
+use Rattle.std.proofs.Common.{◌+◌, ◌*◌, ◌≤◌, take}
+use Rattle.script.specs.Printed.{Wrote}
 use Rattle.script.specs.Text.{counts_text}
 use Rattle.script.proofs.page.Page.had.Given as goal
 

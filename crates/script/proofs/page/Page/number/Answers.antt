@@ -2,7 +2,6 @@
 use Rattle.std.proofs.Common.{◌≡◌, ◌-◌, ◌≤◌, length, take, drop, decimal, ◌∙◌, arith}
 use Rattle.std.proofs.lemmas.Fmt.{length-decimal-le}
 use Rattle.std.proofs.lemmas.Slice.{between_to_end}
-use Rattle.script.specs.Printed.{Wrote}
 use Rattle.script.proofs.Pages.{wrote-same}
 use Rattle.script.proofs.page.Page.number.Goals as goal
 

@@ -1,5 +1,5 @@
 -- What was compared settles whether the word is the name.
-use Rattle.std.proofs.Common.{arith, rules}
+use Rattle.std.proofs.Common.{arith}
 use Rattle.script.proofs.Names.{other_length, other_byte, same_name}
 use Rattle.script.proofs.word.Word.is.Goals as goal
 

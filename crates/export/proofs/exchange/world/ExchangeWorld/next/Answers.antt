@@ -1,5 +1,5 @@
 -- To look at what comes next changes nothing; a step is handed out only where there is room.
-use Rattle.std.proofs.Common.{◌-◌, ◌<◌, map, sym, ap, subst}
+use Rattle.std.proofs.Common.{◌<◌, map, sym, ap, subst}
 use lib.ListN.{length-map}
 use Rattle.memory.proofs.Written.{asks-room}
 use Rattle.export.specs.declared.exchange.Exchange.{Exchange}
