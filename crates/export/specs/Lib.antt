@@ -1,4 +1,5 @@
 pub mod Exchanged
 pub mod Kept
+pub mod Room
 pub mod Transcribed
 pub mod Wire

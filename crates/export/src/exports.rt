@@ -6,8 +6,8 @@ ghost use Rattle.memory.specs.Run.{Answers, allowed, entered};
 ghost use Rattle.export.specs.Kept.{AllGood, FirstBad, Kept, Refused};
 ghost use Rattle.export.specs.Transcribed.{Transcribed};
 
+use crate::accounted::Accounted;
 use crate::exchange::Exchange;
-use crate::transcript::Transcript;
 use crate::wire::{WireEntry, WireStep};
 use memory::entry::{Entry, Step};
 use player::play;
@@ -22,7 +22,7 @@ const REFUSED: u64 = u64::MAX;
 pub fn wendrifoy_play(script: &[u8], transcript: &mut [u8]) -> u64
     ensures { (result ≡ 18446744073709551615) ⊎ Transcribed script.now transcript.old transcript.new result }
 {
-    let mut out = Transcript::new(transcript);
+    let mut out = Accounted::new(transcript);
     match play(script, &mut out) {
         Ok(()) => out.len() as u64,
         Err(Stopped) => REFUSED,

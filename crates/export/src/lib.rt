@@ -1,7 +1,9 @@
 // What Rust and C may call: a script to its transcript, and steps to a log. Nothing is asked of the caller, nothing is allocated.
 #![tactic(auto)]
 
+pub mod accounted;
 pub mod exchange;
 pub mod exports;
+mod room;
 pub mod transcript;
 pub mod wire;

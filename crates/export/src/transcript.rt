@@ -1,7 +1,7 @@
 // A lent slice that takes what a script's player writes.
-ghost use Rattle.std.specs.Prelude.{◌≡◌, ◌+◌, ◌≤◌, ◌++◌, length, take, drop};
-ghost use Rattle.export.specs.Transcribed.{Took};
+ghost use Rattle.std.specs.Prelude.{◌≡◌, take};
 
+use crate::room::write_after;
 use script::sink::{Sink, Stopped};
 
 #[derive(Drop)]
@@ -29,27 +29,15 @@ impl<'a> Transcript<'a> {
 
 // Takes the lines, or none of them if there is no room.
 impl<'a> Sink for Transcript<'a> {
-    ghost took = { Took };
+    ghost took = { λ t xs. take t.len t.room.now ≡ xs };
 
     fn take(&mut self, lines: &[u8]) -> Result<(), Stopped> {
-        let at = self.len;
-        let many = lines.len();
-        if at > self.room.len() || many > self.room.len() - at {
-            return Err(Stopped);
+        match write_after(self.room, self.len, lines) {
+            Some(end) => {
+                self.len = end;
+                Ok(())
+            }
+            None => Err(Stopped),
         }
-        write_at(self.room, at, lines);
-        self.len = at + many;
-        Ok(())
-    }
-}
-
-// Writes the bytes from there on.
-fn write_at(room: &mut [u8], at: usize, bytes: &[u8])
-    requires { at + length bytes.now ≤ length room.old }
-    ensures wrote { take (at + length bytes.now) room.new ≡ take at room.old ++ bytes.now }
-    ensures rest { drop (at + length bytes.now) room.new ≡ drop (at + length bytes.now) room.old }
-{
-    for k in 0..bytes.len() {
-        room[at + k] = bytes[k];
     }
 }

@@ -1,5 +1,6 @@
 // Making an exchange, and what it hands out and writes.
-ghost use Rattle.std.specs.Prelude.{◌≡◌, ◌<◌, map};
+ghost use Rattle.std.specs.Prelude.{◌≡◌, ◌<◌, T, map};
+ghost use Rattle.sched.specs.House.{goes_on'};
 ghost use Rattle.memory.specs.Played.{Asks};
 ghost use Rattle.export.specs.Exchanged.{room_in, Wrote};
 ghost use Rattle.export.specs.Wire.{step_of, entry_of};
@@ -34,6 +35,7 @@ impl<'a> Exchange<'a> {
     // The next step, if there is one and room for its entry.
     pub(crate) fn asks(&mut self) -> Next
         ensures same { self.new ≡ self.old }
+        ensures room { T (goes_on' result) → 0 < room_in self.old }
         ensures asks { Asks (map step_of self.old.steps.now) (map entry_of self.old.log.now) self.old.used result }
     {
         if self.used >= self.steps.len() || self.used >= self.log.len() {

@@ -1,7 +1,7 @@
 -- One byte more stands after them.
 use Rattle.std.proofs.Common.{◌≡◌, ℕ, ◌+◌, ◌<◌, List, [], ◌∷◌, ◌++◌, length, get_or, take, drop, set, sym, refl, ap, ◌∙◌, subst, append_assoc, append-nil, add_assoc, arith}
 use Rattle.std.proofs.lemmas.List.{take_more, take_more_set, take_all, drop-set-lt, drop-drop}
-use Rattle.export.proofs.transcript.write_at.Goals as goal
+use Rattle.export.proofs.room.write_at.Goals as goal
 
 more : (room old bytes : List ℕ) (at k : ℕ) → at + k < length room → k < length bytes → take (at + k) room ≡ old ++ take k bytes → take (at + (k + 1)) (set room (at + k) (get_or bytes k 0)) ≡ old ++ take (k + 1) bytes
 more room old bytes at k l m e =
