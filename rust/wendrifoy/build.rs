@@ -1,4 +1,4 @@
-//! Links the static library of the crate `export`.
+//! Links the static library of the crate `export_c`.
 
 use std::path::PathBuf;
 
@@ -9,7 +9,7 @@ fn main() {
     println!("cargo::rerun-if-changed={}", library.display());
     if !library.exists() {
         println!(
-            "cargo::error={} is not there: run `rt staticlib export` at the root of the repository first",
+            "cargo::error={} is not there: run rust/static first",
             library.display()
         );
         return;
