@@ -18,7 +18,7 @@ use script::sink::Stopped;
 const REFUSED: u64 = u64::MAX;
 
 // Plays the script as the program does, into the transcript from its start. How many bytes were written, or `REFUSED` if there
-// is no room for all of them; what the transcript then holds isn't promised.
+// is no room for all of them: then the transcript holds no more than a beginning, which no clause says.
 pub fn wendrifoy_play(script: &[u8], transcript: &mut [u8]) -> u64
     ensures { (result ≡ 18446744073709551615) ⊎ Transcribed script.now transcript.old transcript.new result }
 {

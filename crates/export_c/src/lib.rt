@@ -9,7 +9,7 @@ use export::exports;
 use export::wire::{WireEntry, WireStep};
 
 // Plays the script as the program does, into the transcript from its start. How many bytes were written, or `u64::MAX` if there
-// is no room for all of them; what the transcript then holds isn't promised.
+// is no room for all of them: then the transcript holds no more than a beginning, which no clause says.
 #[unsafe(no_mangle)]
 pub extern "C" fn wendrifoy_play(script: &[u8], transcript: &mut [u8]) -> u64
     ensures { (result ≡ 18446744073709551615) ⊎ Transcribed script.now transcript.old transcript.new result }
