@@ -1,5 +1,5 @@
 // A script in memory.
-ghost use Prim.Native.Nat.{_≤_};
+ghost use Rattle.std.specs.Prelude.{◌≤◌};
 
 // No script is longer.
 const MOST: usize = 1_048_576;

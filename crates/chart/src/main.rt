@@ -1,20 +1,21 @@
 // Draws the evening of the script on standard input, as SVG on standard output.
+#![tactic(auto)]
+
 mod buffer;
 
+use anyhow::anyhow;
 use buffer::Buffer;
 use picture::draw;
-use script::sink::Sink;
-use script::sink::Stopped;
-use std::error::AnyError;
+use script::sink::{Sink, Stopped};
 use std::io::Read;
 
 // Standard output.
 #[derive(Drop)]
 struct Output<'a> {
-    rt: &'a LibcRuntime,
+    rt: &'a HostRuntime,
 }
 
-impl Sink for Output<'_> as OutputSink {
+impl Sink for Output<'_> {
     // Nothing is known of what the system writes.
     ghost took = { λ _ _. Unit {0} };
 
@@ -26,22 +27,22 @@ impl Sink for Output<'_> as OutputSink {
     }
 }
 
-fn main(rt: LibcRuntime) -> Result<(), AnyError> {
-    rt.report(chart(&rt))
+fn main(rt: HostRuntime) -> anyhow::Result<()> {
+    chart(&rt)
 }
 
-fn chart(rt: &LibcRuntime) -> Result<(), AnyError> {
+fn chart(rt: &HostRuntime) -> anyhow::Result<()> {
     let mut text = Buffer::new();
     read_into(rt, &mut text)?;
     let mut output = Output { rt };
     match draw(text.script(), &mut output) {
         Ok(()) => Ok(()),
-        Err(Stopped) => Err("the picture can't be written".into()),
+        Err(Stopped) => Err(anyhow!("the picture can't be written")),
     }
 }
 
 // Reads standard input to its end.
-fn read_into(rt: &LibcRuntime, text: &mut Buffer) -> Result<(), AnyError> {
+fn read_into(rt: &HostRuntime, text: &mut Buffer) -> anyhow::Result<()> {
     let mut input = rt.stdin();
     let mut buffer = [0u8; 4096];
     for _k in 0..u64::MAX {
@@ -50,7 +51,7 @@ fn read_into(rt: &LibcRuntime, text: &mut Buffer) -> Result<(), AnyError> {
             break;
         }
         if !text.push(&buffer[0..n]) {
-            return Err("the script is longer than 1 MiB".into());
+            return Err(anyhow!("the script is longer than 1 MiB"));
         }
     }
     Ok(())

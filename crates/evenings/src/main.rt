@@ -1,9 +1,10 @@
 // Plays each script of the data folder from an empty scheduler, and compares what it writes with what the rules say.
+#![tactic(auto)]
+
+use anyhow::anyhow;
 use player::play;
 use rehearsal::expectation::first_difference;
 use rehearsal::room::Room;
-use rehearsal::room::RoomSink;
-use std::error::AnyError;
 use std::fs::File;
 use std::io::Read;
 
@@ -84,11 +85,11 @@ static SCENES: [Scene; 13] = [
     },
 ];
 
-fn main(rt: LibcRuntime) -> Result<(), AnyError> {
-    rt.report(play_all(&rt))
+fn main(rt: HostRuntime) -> anyhow::Result<()> {
+    play_all(&rt)
 }
 
-fn play_all(rt: &LibcRuntime) -> Result<(), AnyError> {
+fn play_all(rt: &HostRuntime) -> anyhow::Result<()> {
     for k in 0..13usize {
         compare(rt, &SCENES[k])?;
     }
@@ -96,28 +97,25 @@ fn play_all(rt: &LibcRuntime) -> Result<(), AnyError> {
 }
 
 // Says whether the script is answered as expected.
-fn compare(rt: &LibcRuntime, scene: &Scene) -> Result<(), AnyError> {
+fn compare(rt: &HostRuntime, scene: &Scene) -> anyhow::Result<()> {
     let mut script = Room::new();
     read_into(rt, scene.script, &mut script)?;
     let mut written = Room::new();
     if play(script.bytes(), &mut written).is_err() {
-        return Err("the transcript is too long".into());
+        return Err(anyhow!("the transcript is too long"));
     }
     let mut expected = Room::new();
     read_into(rt, scene.expected, &mut expected)?;
     let title = scene.title;
     let file = scene.expected;
     match first_difference(expected.bytes(), written.bytes()) {
-        None => println!(rt, "{title}: as the rules say")?,
-        Some(line) => println!(
-            rt,
-            "{title}: other than the rules say, at line {line} of {file}"
-        )?,
+        None => println!(rt; "{title}: as the rules say")?,
+        Some(line) => println!(rt; "{title}: other than the rules say, at line {line} of {file}")?,
     }
     Ok(())
 }
 
-fn read_into(rt: &LibcRuntime, name: &str, room: &mut Room) -> Result<(), AnyError> {
+fn read_into(rt: &HostRuntime, name: &str, room: &mut Room) -> anyhow::Result<()> {
     let mut file = File::open(rt, name)?;
     let mut buffer = [0u8; 4096];
     for _k in 0..u64::MAX {
@@ -126,7 +124,7 @@ fn read_into(rt: &LibcRuntime, name: &str, room: &mut Room) -> Result<(), AnyErr
             break;
         }
         if !room.push(&buffer[0..n]) {
-            return Err("the text is too long".into());
+            return Err(anyhow!("the text is too long"));
         }
     }
     Ok(())

@@ -1,28 +1,24 @@
 -- Steps played into a log of numbers: which of them are good, and what the log holds in the end.
 -- Assumes nothing.
-use mathlib.Core.Path.{_≡_}
-use mathlib.Core.Bool.{true, false}
-use mathlib.Core.List.{List, map}
-use Prim.Native.Nat.{ℕ, min, _<_, _≤_}
-use lib.ListN.{length, drop, getD}
-use Rattle·memory.specs.Played.{Played}
-use Rattle·export·specs.declared.wire.WireEntry.{WireEntry}
-use Rattle·export·specs.declared.wire.WireStep.{WireStep}
-use Rattle·export·specs.Wire.{good, noStep, stepOf, entryOf}
+use Rattle.std.specs.Prelude.{◌≡◌, ℕ, ◌<◌, ◌≤◌, min, true, false, List, map, length, drop, slice_index_or}
+use Rattle.memory.specs.Played.{Played}
+use Rattle.export.specs.declared.wire.WireEntry.{WireEntry}
+use Rattle.export.specs.declared.wire.WireStep.{WireStep}
+use Rattle.export.specs.Wire.{good, no_step, step_of, entry_of}
 
 abbrev pub AllGood : List WireStep → Type 0
-AllGood steps = (k : ℕ) → k < length steps → good (getD steps k noStep) ≡ true
+AllGood steps = (k : ℕ) → k < length steps → good (slice_index_or steps k no_step) ≡ true
 
 -- the first step that isn't good, or the end
 pub record FirstBad (steps : List WireStep) (at : ℕ) : Type 0 where
   pub within : at ≤ length steps
-  pub before : (k : ℕ) → k < at → good (getD steps k noStep) ≡ true
-  pub here : at < length steps → good (getD steps at noStep) ≡ false
+  pub before : (k : ℕ) → k < at → good (slice_index_or steps k no_step) ≡ true
+  pub here : at < length steps → good (slice_index_or steps at no_step) ≡ false
 
 -- The log's first entries are a legal run from the empty house that answers the steps one by one, as many as there are and have room; the rest is as it was.
 pub record Kept (steps : List WireStep) (before after : List WireEntry) (written : ℕ) : Type 0 where
   pub many : written ≡ min (length steps) (length before)
-  pub played : Played (map stepOf steps) (map entryOf before) (map entryOf after) written
+  pub played : Played (map step_of steps) (map entry_of before) (map entry_of after) written
   pub rest : drop written after ≡ drop written before
   pub len : length after ≡ length before
 

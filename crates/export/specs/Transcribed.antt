@@ -1,12 +1,8 @@
 -- What a script's player wrote into a lent slice: a text that the rules allow, with the rest of the slice as it was.
 -- Assumes nothing.
-use mathlib.Core.Path.{_≡_}
-use mathlib.Core.List.{List, _∷_, _++_}
-use Prim.Native.Nat.{ℕ, _≤_}
-use denote.Ref.{now, name}
-use lib.ListN.{length, take, drop}
-use Rattle·player.specs.Session.{Allowed}
-use Rattle·export·specs.declared.transcript.Transcript.{Transcript}
+use Rattle.std.specs.Prelude.{◌≡◌, ℕ, ◌≤◌, List, ◌∷◌, ◌++◌, length, take, drop}
+use Rattle.player.specs.Session.{Allowed}
+use Rattle.export.specs.declared.transcript.Transcript.{Transcript}
 
 -- What a transcript is made from, in numbers: who lent the room, how long it is, and what stood in it.
 abbrev pub origin : (lender : ℕ) (room : List ℕ) → List ℕ
@@ -15,10 +11,10 @@ origin lender room = lender ∷ length room ∷ room
 -- All that a transcript took: what it is made from, then what was written. Behind that the room is as it was.
 pub record Took (t : Transcript) (all : List ℕ) : Type 0 where
   pub before : List ℕ
-  pub written : all ≡ origin (name (t .room)) before ++ take (t .len) (now (t .room))
-  pub fits : t .len ≤ length before
-  pub rest : drop (t .len) (now (t .room)) ≡ drop (t .len) before
-  pub size : length (now (t .room)) ≡ length before
+  pub written : all ≡ origin t.room.ghost_name before ++ take t.len t.room.now
+  pub fits : t.len ≤ length before
+  pub rest : drop t.len t.room.now ≡ drop t.len before
+  pub size : length t.room.now ≡ length before
 
 -- The transcript's first bytes are a text that the rules allow for the script; the rest is as it was.
 pub record Transcribed (script before after : List ℕ) (written : ℕ) : Type 0 where

@@ -1,6 +1,5 @@
 // A world over lent slices of numbers: steps to hand out, a log to write.
-use crate::wire::WireEntry;
-use crate::wire::WireStep;
+use crate::wire::{WireEntry, WireStep};
 
 mod methods;
 pub mod world;

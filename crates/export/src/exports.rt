@@ -1,25 +1,18 @@
 // The functions that are exported.
+ghost use Rattle.std.specs.Prelude.{◌≡◌, min, T, ◌⊎◌};
+ghost use Rattle.sched.specs.House.{House};
+ghost use Rattle.sched.specs.Stores.{Holds};
+ghost use Rattle.memory.specs.Run.{Answers, allowed, entered};
+ghost use Rattle.export.specs.Kept.{AllGood, FirstBad, Kept, Refused};
+ghost use Rattle.export.specs.Transcribed.{Transcribed};
+
 use crate::exchange::Exchange;
-use crate::exchange::world::ExchangeWorld;
 use crate::transcript::Transcript;
-use crate::transcript::TranscriptSink;
-use crate::wire::WireEntry;
-use crate::wire::WireStep;
-use memory::entry::Entry;
-use memory::entry::Step;
+use crate::wire::{WireEntry, WireStep};
+use memory::entry::{Entry, Step};
 use player::play;
-use sched::Scheduler;
-use sched::hours;
+use sched::{Scheduler, hours};
 use script::sink::Stopped;
-ghost use mathlib.Core.Path.{_≡_};
-ghost use mathlib.Core.Logic.{_⊎_};
-ghost use Prim.Native.Nat.{min};
-ghost use lib.Dec.{T};
-ghost use Rattle·sched.specs.House.{House};
-ghost use Rattle·sched.specs.Stores.{Holds};
-ghost use Rattle·memory.specs.Run.{Answers, allowed, entered};
-ghost use Rattle·export·specs.Kept.{AllGood, FirstBad, Kept, Refused};
-ghost use Rattle·export·specs.Transcribed.{Transcribed};
 
 // What is answered in place of a count: the transcript has no room, or a step isn't one.
 const REFUSED: u64 = u64::MAX;
@@ -28,7 +21,7 @@ const REFUSED: u64 = u64::MAX;
 // is no room for all of them; what the transcript then holds isn't promised.
 #[unsafe(no_mangle)]
 pub extern "C" fn wendrifoy_play(script: &[u8], transcript: &mut [u8]) -> u64
-    ensures { λ r. ⌜ (r ≡ 18446744073709551615) ⊎ Transcribed (now (script .entry)) (now (transcript .entry)) (now (transcript .exit)) r ⌝ }
+    ensures { (result ≡ 18446744073709551615) ⊎ Transcribed script.now transcript.old transcript.new result }
 {
     let mut out = Transcript::new(transcript);
     match play(script, &mut out) {
@@ -40,7 +33,7 @@ pub extern "C" fn wendrifoy_play(script: &[u8], transcript: &mut [u8]) -> u64
 // The number of the first step that isn't a good one, from 0; if all are, how many there are.
 #[unsafe(no_mangle)]
 pub extern "C" fn wendrifoy_first_bad(steps: &[WireStep]) -> u64
-    ensures { λ r. ⌜ FirstBad (now (steps .entry)) r ⌝ }
+    ensures { FirstBad steps.now result }
 {
     first_bad(steps) as u64
 }
@@ -49,7 +42,7 @@ pub extern "C" fn wendrifoy_first_bad(steps: &[WireStep]) -> u64
 // of the steps isn't good: then nothing is played.
 #[unsafe(no_mangle)]
 pub extern "C" fn wendrifoy_hours(steps: &[WireStep], log: &mut [WireEntry]) -> u64
-    ensures { λ r. ⌜ Refused (now (steps .entry)) (now (log .entry)) (now (log .exit)) r ⊎ AllGood (now (steps .entry)) ⌝ }
+    ensures { Refused steps.now log.old log.new result ⊎ AllGood steps.now }
 {
     if first_bad(steps) < steps.len() {
         return REFUSED;
@@ -67,7 +60,7 @@ fn run<'a>(steps: &'a [WireStep], log: &'a mut [WireEntry]) -> usize {
 // The same by a loop of its own, which is proved to leave a legal run in the log.
 #[unsafe(no_mangle)]
 pub extern "C" fn wendrifoy_record(steps: &[WireStep], log: &mut [WireEntry]) -> u64
-    ensures { λ r. ⌜ Refused (now (steps .entry)) (now (log .entry)) (now (log .exit)) r ⊎ (AllGood (now (steps .entry)) × Kept (now (steps .entry)) (now (log .entry)) (now (log .exit)) r) ⌝ }
+    ensures { Refused steps.now log.old log.new result ⊎ (AllGood steps.now × Kept steps.now log.old log.new result) }
 {
     if first_bad(steps) < steps.len() {
         return REFUSED;
@@ -76,7 +69,7 @@ pub extern "C" fn wendrifoy_record(steps: &[WireStep], log: &mut [WireEntry]) ->
 }
 
 fn first_bad(steps: &[WireStep]) -> usize
-    ensures { λ r. ⌜ FirstBad (now (steps .entry)) r ⌝ }
+    ensures { FirstBad steps.now result }
 {
     for i in 0..steps.len() {
         let step = steps[i];
@@ -88,7 +81,7 @@ fn first_bad(steps: &[WireStep]) -> usize
 }
 
 fn record(steps: &[WireStep], log: &mut [WireEntry]) -> usize
-    ensures { λ r. ⌜ Kept (now (steps .entry)) (now (log .entry)) (now (log .exit)) r ⌝ }
+    ensures { Kept steps.now log.old log.new result }
 {
     let many = least(steps.len(), log.len());
     let mut s = Scheduler::new();
@@ -103,7 +96,7 @@ fn record(steps: &[WireStep], log: &mut [WireEntry]) -> usize
 }
 
 fn least(a: usize, b: usize) -> usize
-    ensures { λ r. ⌜ r ≡ min a b ⌝ }
+    ensures { result ≡ min a b }
 {
     if a < b {
         return a;
@@ -113,8 +106,8 @@ fn least(a: usize, b: usize) -> usize
 
 // One turn of the scheduler: the entry that answers the step.
 fn turn(s: &mut Scheduler, step: Step) -> Entry
-    ensures answers { λ r. ⌜ Answers step r ⌝ }
-    ensures allowed { λ r. ⌜ ((h : House) → Holds (now (s .entry)) h → T (allowed h r) × Holds (now (s .exit)) (entered h r)) ⌝ }
+    ensures answers { Answers step result }
+    ensures allowed { (h : House) → Holds s.old h → T (allowed h result) × Holds s.new (entered h result) }
 {
     match step {
         Step::Tick => {

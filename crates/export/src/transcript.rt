@@ -1,12 +1,8 @@
 // A lent slice that takes what a script's player writes.
-ghost use mathlib.Core.Path.{_≡_};
-ghost use mathlib.Core.List.{_++_};
-ghost use Prim.Native.Nat.{_+_, _≤_};
-ghost use denote.Ref.{name};
-ghost use lib.ListN.{length, take, drop};
-ghost use Rattle·export·specs.Transcribed.{Took};
-use script::sink::Sink;
-use script::sink::Stopped;
+ghost use Rattle.std.specs.Prelude.{◌≡◌, ◌+◌, ◌≤◌, ◌++◌, length, take, drop};
+ghost use Rattle.export.specs.Transcribed.{Took};
+
+use script::sink::{Sink, Stopped};
 
 #[derive(Drop)]
 pub struct Transcript<'a> {
@@ -16,23 +12,23 @@ pub struct Transcript<'a> {
 
 impl<'a> Transcript<'a> {
     pub fn new(room: &'a mut [u8]) -> Transcript<'a>
-        ensures room { λ r. ⌜ now (r .room) ≡ now (room .entry) ⌝ }
-        ensures lender { λ r. ⌜ name (r .room) ≡ name (room .entry) ⌝ }
-        ensures len { λ r. ⌜ r .len ≡ 0 ⌝ }
+        ensures room { result.room.now ≡ room.old }
+        ensures lender { result.room.ghost_name ≡ room.entry.ghost_name }
+        ensures len { result.len ≡ 0 }
     {
         Transcript { room, len: 0 }
     }
 
     // How many bytes were written.
     pub fn len(&self) -> usize
-        ensures { λ r. ⌜ r ≡ now (self .entry) .len ⌝ }
+        ensures { result ≡ self.now.len }
     {
         self.len
     }
 }
 
 // Takes the lines, or none of them if there is no room.
-pub impl<'a> Sink for Transcript<'a> as TranscriptSink {
+impl<'a> Sink for Transcript<'a> {
     ghost took = { Took };
 
     fn take(&mut self, lines: &[u8]) -> Result<(), Stopped> {
@@ -49,9 +45,9 @@ pub impl<'a> Sink for Transcript<'a> as TranscriptSink {
 
 // Writes the bytes from there on.
 fn write_at(room: &mut [u8], at: usize, bytes: &[u8])
-    requires { ⌜ at + length (now bytes) ≤ length (now room) ⌝ }
-    ensures wrote { λ _. ⌜ take (at + length (now (bytes .entry))) (now (room .exit)) ≡ take at (now (room .entry)) ++ now (bytes .entry) ⌝ }
-    ensures rest { λ _. ⌜ drop (at + length (now (bytes .entry))) (now (room .exit)) ≡ drop (at + length (now (bytes .entry))) (now (room .entry)) ⌝ }
+    requires { at + length bytes.now ≤ length room.old }
+    ensures wrote { take (at + length bytes.now) room.new ≡ take at room.old ++ bytes.now }
+    ensures rest { drop (at + length bytes.now) room.new ≡ drop (at + length bytes.now) room.old }
 {
     for k in 0..bytes.len() {
         room[at + k] = bytes[k];

@@ -1,13 +1,9 @@
 // Steps and entries as plain numbers, in the layout that C gives them.
-use memory::entry::Entry;
-use memory::entry::Step;
-use sched::Answer;
-use sched::Call;
-use sched::Kind;
-ghost use mathlib.Core.Path.{_≡_};
-ghost use mathlib.Core.Bool.{true, false};
-ghost use lib.Dec.{eqb, leb};
-ghost use Rattle·export·specs.Wire.{good, kindOf, callOf, stepOf, entryOf};
+ghost use Rattle.std.specs.Prelude.{◌≡◌, true, false, ◌==◌, nat_le};
+ghost use Rattle.export.specs.Wire.{good, kind_of, call_of, step_of, entry_of};
+
+use memory::entry::{Entry, Step};
+use sched::{Answer, Call, Kind};
 
 // What is asked for: 0 a tick; 1 to 3 make reserved (quota, period), fixed (rank), fair (weight); 4 end, 5 wake and 6 sleep
 // (task); 7 lock and 8 unlock (task, lock). Numbers that a step doesn't need are not looked at.
@@ -34,14 +30,14 @@ pub struct WireEntry {
 impl WireStep {
     // Whether it says what is asked for.
     pub fn is_good(self) -> bool
-        ensures { λ r. ⌜ r ≡ good self ⌝ }
+        ensures { result ≡ good self }
     {
         self.what <= 8
     }
 
     // The step that a good one asks for.
     pub fn step(self) -> Step
-        ensures { λ r. ⌜ r ≡ stepOf self ⌝ }
+        ensures { result ≡ step_of self }
     {
         if self.what == 0 {
             return Step::Tick;
@@ -50,7 +46,7 @@ impl WireStep {
     }
 
     fn call(self) -> Call
-        ensures { λ r. ⌜ r ≡ callOf (self .what) (self .first) (self .second) ⌝ }
+        ensures { result ≡ call_of self.what self.first self.second }
     {
         if self.what <= 3 {
             return Call::Make(self.kind());
@@ -71,7 +67,7 @@ impl WireStep {
     }
 
     fn kind(self) -> Kind
-        ensures { λ r. ⌜ r ≡ kindOf (self .what) (self .first) (self .second) ⌝ }
+        ensures { result ≡ kind_of self.what self.first self.second }
     {
         if self.what == 1 {
             return Kind::Reserved(self.first, self.second);
@@ -84,8 +80,8 @@ impl WireStep {
 
     // The call, in numbers.
     fn of(call: Call) -> WireStep
-        ensures says { λ r. ⌜ callOf (r .what) (r .first) (r .second) ≡ call ⌝ }
-        ensures calls { λ r. ⌜ eqb (r .what) 0 ≡ false ⌝ }
+        ensures says { call_of result.what result.first result.second ≡ call }
+        ensures calls { (result.what == 0) ≡ false }
     {
         match call {
             Call::Make(kind) => WireStep::making(kind),
@@ -118,9 +114,9 @@ impl WireStep {
     }
 
     fn making(kind: Kind) -> WireStep
-        ensures says { λ r. ⌜ kindOf (r .what) (r .first) (r .second) ≡ kind ⌝ }
-        ensures makes { λ r. ⌜ leb (r .what) 3 ≡ true ⌝ }
-        ensures calls { λ r. ⌜ eqb (r .what) 0 ≡ false ⌝ }
+        ensures says { kind_of result.what result.first result.second ≡ kind }
+        ensures makes { nat_le result.what 3 ≡ true }
+        ensures calls { (result.what == 0) ≡ false }
     {
         match kind {
             Kind::Reserved(quota, period) => WireStep {
@@ -145,7 +141,7 @@ impl WireStep {
 impl WireEntry {
     // The entry, in numbers.
     pub fn new(entry: Entry) -> WireEntry
-        ensures { λ r. ⌜ entryOf r ≡ entry ⌝ }
+        ensures { entry_of result ≡ entry }
     {
         match entry {
             Entry::Ran(whose, runs) => WireEntry::ran(whose, runs),
@@ -154,7 +150,7 @@ impl WireEntry {
     }
 
     fn ran(whose: Option<u32>, runs: u32) -> WireEntry
-        ensures { λ r. ⌜ entryOf r ≡ Entry.Ran whose runs ⌝ }
+        ensures { entry_of result ≡ Entry.Ran whose runs }
     {
         match whose {
             Some(i) => WireEntry {
@@ -175,7 +171,7 @@ impl WireEntry {
     }
 
     fn called(step: WireStep, a: Answer) -> WireEntry
-        ensures { λ r. ⌜ (eqb (step .what) 0 ≡ false → entryOf r ≡ Entry.Called (callOf (step .what) (step .first) (step .second)) a) ⌝ }
+        ensures { (step.what == 0) ≡ false → entry_of result ≡ Entry.Called (call_of step.what step.first step.second) a }
     {
         let what = step.what;
         let first = step.first;

@@ -1,22 +1,20 @@
 -- Where things are drawn. Assumes nothing.
-use mathlib.Core.Bool.{cond}
-use Prim.Native.Nat.{ℕ}
-use lib.Dec.{leb}
-use Rattle·layout·specs.declared.Scale.{Scale}
-use Rattle·layout·specs.declared.Scale.the-variants.{Wide, Middle, Narrow, Fine}
+use Rattle.std.specs.Prelude.{cond, ℕ, leb}
+use Rattle.layout.specs.declared.Scale.{Scale}
+use Rattle.layout.specs.declared.Scale.TheVariants.{Wide, Middle, Narrow, Fine}
 
 -- the longer the evening, the narrower a tick
-abbrev pub scaleOf : ℕ → Scale
-scaleOf n = cond (leb n 40) Wide (cond (leb n 160) Middle (cond (leb n 640) Narrow Fine))
+abbrev pub scale_of : ℕ → Scale
+scale_of n = cond (leb n 40) Wide (cond (leb n 160) Middle (cond (leb n 640) Narrow Fine))
 
-unfoldable pub tickWidth : Scale → ℕ
-tickWidth Wide = 24
-tickWidth Middle = 12
-tickWidth Narrow = 8
-tickWidth Fine = 6
+unfoldable pub tick_width : Scale → ℕ
+tick_width Wide = 24
+tick_width Middle = 12
+tick_width Narrow = 8
+tick_width Fine = 6
 
-unfoldable pub perBand : Scale → ℕ
-perBand Wide = 40
-perBand Middle = 80
-perBand Narrow = 120
-perBand Fine = 160
+unfoldable pub per_band : Scale → ℕ
+per_band Wide = 40
+per_band Middle = 80
+per_band Narrow = 120
+per_band Fine = 160

@@ -1,8 +1,9 @@
 // Where a tick is drawn: how wide it is, in which band, how far to the right. Ticks are wrapped into bands, each 960 wide,
 // so that a long script needs no wider page.
-ghost use mathlib.Core.Path.{_≡_};
-ghost use Prim.Native.Nat.{_+_, _-_, _*_, _<_, _≤_};
-ghost use Rattle·layout·specs.Layout.{scaleOf, tickWidth, perBand};
+#![tactic(auto)]
+
+ghost use Rattle.std.specs.Prelude.{◌≡◌, ◌+◌, ◌-◌, ◌*◌, ◌<◌, ◌≤◌};
+ghost use Rattle.layout.specs.Layout.{scale_of, tick_width, per_band};
 
 // Where time begins; the names of the rows stand to the left of it.
 pub const LEFT: u32 = 184;
@@ -24,7 +25,7 @@ pub enum Scale {
 
 impl Scale {
     pub fn of(ticks: u32) -> Scale
-        ensures { λ r. ⌜ r ≡ scaleOf ticks ⌝ }
+        ensures { result ≡ scale_of ticks }
     {
         if ticks <= 40 {
             return Scale::Wide;
@@ -40,9 +41,9 @@ impl Scale {
 
     // How wide a tick is.
     pub fn tick(self) -> u32
-        ensures value { λ r. ⌜ r ≡ tickWidth self ⌝ }
-        ensures least { λ r. ⌜ 6 ≤ r ⌝ }
-        ensures most { λ r. ⌜ r ≤ 24 ⌝ }
+        ensures value { result ≡ tick_width self }
+        ensures least { 6 ≤ result }
+        ensures most { result ≤ 24 }
     {
         match self {
             Scale::Wide => 24,
@@ -54,10 +55,10 @@ impl Scale {
 
     // How many ticks there are in a band: they fill its time.
     pub fn per_band(self) -> u32
-        ensures value { λ r. ⌜ r ≡ perBand self ⌝ }
-        ensures least { λ r. ⌜ 40 ≤ r ⌝ }
-        ensures most { λ r. ⌜ r ≤ 160 ⌝ }
-        ensures filled { λ r. ⌜ r * tickWidth self ≡ 960 ⌝ }
+        ensures value { result ≡ per_band self }
+        ensures least { 40 ≤ result }
+        ensures most { result ≤ 160 }
+        ensures filled { result * tick_width self ≡ 960 }
     {
         match self {
             Scale::Wide => 40,
@@ -69,7 +70,7 @@ impl Scale {
 
     // Every so many ticks have their number written.
     pub fn numbered(self) -> u32
-        ensures { λ r. ⌜ 1 ≤ r ⌝ }
+        ensures { 1 ≤ result }
     {
         match self {
             Scale::Wide => 1,
@@ -81,8 +82,8 @@ impl Scale {
 
     // The bands are filled one after the other.
     pub fn spot(self, tick: u32) -> Spot
-        ensures place { λ r. ⌜ r .band * perBand self + r .column ≡ tick ⌝ }
-        ensures within { λ r. ⌜ r .column < perBand self ⌝ }
+        ensures place { result.band * per_band self + result.column ≡ tick }
+        ensures within { result.column < per_band self }
     {
         Spot {
             band: tick / self.per_band(),
@@ -92,15 +93,15 @@ impl Scale {
 
     // The left edge of a column.
     pub fn x(self, column: u32) -> u32
-        ensures { λ r. ⌜ (column ≤ 160 → r ≡ 184 + column * tickWidth self) ⌝ }
+        ensures { column ≤ 160 → result ≡ 184 + column * tick_width self }
     {
         LEFT.saturating_add(self.width(column))
     }
 
     // How wide so many ticks are.
     pub fn width(self, ticks: u32) -> u32
-        ensures value { λ r. ⌜ (ticks ≤ 160 → r ≡ ticks * tickWidth self) ⌝ }
-        ensures most { λ r. ⌜ (ticks ≤ 160 → r ≤ 3840) ⌝ }
+        ensures value { ticks ≤ 160 → result ≡ ticks * tick_width self }
+        ensures most { ticks ≤ 160 → result ≤ 3840 }
     {
         ticks.saturating_mul(self.tick())
     }
@@ -132,19 +133,19 @@ pub struct Stretch {
 
 impl Stretch {
     pub fn x(self, scale: Scale) -> u32
-        ensures { λ r. ⌜ (self .from ≤ 160 → r ≡ 184 + self .from * tickWidth scale) ⌝ }
+        ensures { self.from ≤ 160 → result ≡ 184 + self.from * tick_width scale }
     {
         scale.x(self.from)
     }
 
     pub fn ticks(self) -> u32
-        ensures { λ r. ⌜ r ≡ self .to - self .from ⌝ }
+        ensures { result ≡ self.to - self.from }
     {
         self.to.saturating_sub(self.from)
     }
 
     pub fn width(self, scale: Scale) -> u32
-        ensures { λ r. ⌜ (self .to ≤ 160 → r ≡ (self .to - self .from) * tickWidth scale) ⌝ }
+        ensures { self.to ≤ 160 → result ≡ (self.to - self.from) * tick_width scale }
     {
         scale.width(self.ticks())
     }

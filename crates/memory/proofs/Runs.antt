@@ -1,35 +1,29 @@
 -- Runs grow at their end: one more entry, one more step answered. And the test on a log says just what the relation says.
-use mathlib.Core.Path.{_≡_, refl, ap, subst}
-use mathlib.Core.Bool.{true}
-use mathlib.Core.List.{List, [], _∷_, _++_}
-use Prim.Native.Nat.{ℕ, _<_}
-use native.Mathlib.Omega.{arith}
-use lib.Dec.{eqb, T, eqb→eq, eqb-refl}
-use lib.ListN.{length, getD}
-use Rattle·std.specs.declared.option.Option.{Option}
-use Rattle·sched.specs.declared.Call.{Call}
-use Rattle·sched.specs.declared.Answer.{Answer}
-use Rattle·sched.specs.declared.Answer.the-variants.{Done, Id, No}
-use Rattle·sched.specs.House.{House, calls, mayRun, after}
-use Rattle·sched.proofs.Tests.{and-T, and-left-T, and-right-T}
-use Rattle·memory·specs.declared.entry.Entry.{Entry}
-use Rattle·memory·specs.declared.entry.Entry.the-variants.{Ran, Called}
-use Rattle·memory·specs.declared.entry.Step.{Step}
-use Rattle·sched.specs.Refusals.{sameAnswer}
-use Rattle·memory·specs.Run.{Run, over, called, ran, Answers, Follows, none, more, entered, outcome, allowed, legal}
+use Rattle.std.proofs.Common.{◌≡◌, ℕ, ◌<◌, true, T, eqb, List, [], ◌∷◌, ◌++◌, length, get_or, Option, refl, ap, subst, arith, eqb→eq}
+use lib.Dec.{eqb_refl}
+use Rattle.sched.specs.declared.Call.{Call}
+use Rattle.sched.specs.declared.Answer.{Answer}
+use Rattle.sched.specs.declared.Answer.TheVariants.{Done, Id, No}
+use Rattle.sched.specs.House.{House, calls, may_run, after}
+use Rattle.sched.proofs.Tests.{and_T, and-left-T, and-right-T}
+use Rattle.memory.specs.declared.entry.Entry.{Entry}
+use Rattle.memory.specs.declared.entry.Entry.TheVariants.{Ran, Called}
+use Rattle.memory.specs.declared.entry.Step.{Step}
+use Rattle.sched.specs.Refusals.{same_answer}
+use Rattle.memory.specs.Run.{Run, over, called, ran, Answers, Follows, none, more, entered, outcome, allowed, legal}
 
 -- THE TEST ON ANSWERS
-same-answer-refl : (a : Answer) → T (sameAnswer a a)
-unfolding sameAnswer
+same-answer-refl : (a : Answer) → T (same_answer a a)
+unfolding same_answer
 same-answer-refl Done = tt
-same-answer-refl (Id n) = eqb-refl n
-same-answer-refl (No n) = eqb-refl n
+same-answer-refl (Id n) = eqb_refl n
+same-answer-refl (No n) = eqb_refl n
 
-pub same-answer : (a b : Answer) → a ≡ b → T (sameAnswer a b)
-same-answer a b e = subst (λ (x : Answer). T (sameAnswer a x)) e (same-answer-refl a)
+pub same_answer-equal : (a b : Answer) → a ≡ b → T (same_answer a b)
+same_answer-equal a b e = subst (λ (x : Answer). T (same_answer a x)) e (same-answer-refl a)
 
-pub answer-same : (a b : Answer) → T (sameAnswer a b) → a ≡ b
-unfolding sameAnswer
+pub answer-same : (a b : Answer) → T (same_answer a b) → a ≡ b
+unfolding same_answer
 answer-same Done Done t = refl
 answer-same Done (Id n) t = absurd t
 answer-same Done (No n) t = absurd t
@@ -41,15 +35,15 @@ answer-same (No m) (Id n) t = absurd t
 answer-same (No m) (No n) t = ap No (eqb→eq m n t)
 
 -- WHAT MAY BE RECORDED: a call with the answer that the rules give, a tick that may be
-pub told-allowed : (h : House) (c : Call) (a : Answer) → a ≡ calls c h .answer → T (allowed h (Called c a))
+pub told-allowed : (h : House) (c : Call) (a : Answer) → a ≡ (calls c h).answer → T (allowed h (Called c a))
 unfolding allowed
-told-allowed h c a e = same-answer a (calls c h .answer) e
+told-allowed h c a e = same_answer-equal a (calls c h).answer e
 
-pub ran-allowed : (h : House) (t : Option ℕ) (j : ℕ) → T (mayRun h t j) → T (allowed h (Ran t j))
+pub ran-allowed : (h : House) (t : Option ℕ) (j : ℕ) → T (may_run h t j) → T (allowed h (Ran t j))
 unfolding allowed
 ran-allowed h t j m = m
 
-pub told-entered : (h : House) (c : Call) (a : Answer) → entered h (Called c a) ≡ calls c h .house
+pub told-entered : (h : House) (c : Call) (a : Answer) → entered h (Called c a) ≡ (calls c h).house
 unfolding entered
 told-entered h c a = refl
 
@@ -65,33 +59,33 @@ outcome-push h (f ∷ es) e = outcome-push (entered h f) es e
 
 pub legal-push : (h : House) (es : List Entry) (e : Entry) → T (legal h es) → T (allowed (outcome h es) e) → T (legal h (es ++ (e ∷ [])))
 unfolding outcome legal
-legal-push h [] e t a = and-T (allowed h e) true a tt
+legal-push h [] e t a = and_T (allowed h e) true a tt
 legal-push h (f ∷ es) e t a =
-    and-T (allowed h f) (legal (entered h f) (es ++ (e ∷ []))) (and-left-T (allowed h f) (legal (entered h f) es) t)
+    and_T (allowed h f) (legal (entered h f) (es ++ (e ∷ []))) (and-left-T (allowed h f) (legal (entered h f) es) t)
     (legal-push (entered h f) es e (and-right-T (allowed h f) (legal (entered h f) es) t) a)
 
 -- THE TEST SAYS WHAT THE RELATION SAYS
-one-more : (h : House) (e : Entry) (es : List Entry) (k : House) → T (allowed h e) → Run (entered h e) es k → Run h (e ∷ es) k
+one_more : (h : House) (e : Entry) (es : List Entry) (k : House) → T (allowed h e) → Run (entered h e) es k → Run h (e ∷ es) k
 unfolding entered allowed
-one-more h (Ran t j) es k a r = ran t j a r
-one-more h (Called c a) es k t r = called c a (answer-same a (calls c h .answer) t) r
+one_more h (Ran t j) es k a r = ran t j a r
+one_more h (Called c a) es k t r = called c a (answer-same a (calls c h).answer t) r
 
 pub legal-run : (h : House) (es : List Entry) → T (legal h es) → Run h es (outcome h es)
 unfolding outcome legal
 legal-run h [] t = over
 legal-run h (e ∷ es) t =
-    one-more h e es (outcome (entered h e) es) (and-left-T (allowed h e) (legal (entered h e) es) t)
+    one_more h e es (outcome (entered h e) es) (and-left-T (allowed h e) (legal (entered h e) es) t)
     (legal-run (entered h e) es (and-right-T (allowed h e) (legal (entered h e) es) t))
 
 pub run-legal : {h k : House} {es : List Entry} → Run h es k → T (legal h es) × (outcome h es ≡ k)
 unfolding outcome legal entered allowed
 run-legal over = (tt, refl)
 run-legal {h} (called {es = es} c a e r) =
-    (and-T (sameAnswer a (calls c h .answer)) (legal (calls c h .house) es) (same-answer a (calls c h .answer) e) (run-legal r .0), run-legal r .1)
-run-legal {h} (ran {es = es} t j m r) = (and-T (mayRun h t j) (legal (after h t) es) m (run-legal r .0), run-legal r .1)
+    (and_T (same_answer a (calls c h).answer) (legal (calls c h).house es) (same_answer-equal a (calls c h).answer e) (run-legal r).0, (run-legal r).1)
+run-legal {h} (ran {es = es} t j m r) = (and_T (may_run h t j) (legal (after h t) es) m (run-legal r).0, (run-legal r).1)
 
 -- ONE MORE STEP ANSWERED
-pub follows-push : (ss : List Step) (es : List Entry) (e : Entry) (d : Step) → Follows ss es → length es < length ss → Answers (getD ss (length es) d) e → Follows ss (es ++ (e ∷ []))
+pub follows-push : (ss : List Step) (es : List Entry) (e : Entry) (d : Step) → Follows ss es → length es < length ss → Answers (get_or ss (length es) d) e → Follows ss (es ++ (e ∷ []))
 follows-push [] es e d f l a = absurd (omega arith)
 follows-push (s ∷ ss) [] e d f l a = more a none
 follows-push (s ∷ ss) (g ∷ es) e d (more b f) l a = more b (follows-push ss es e d f (omega arith) a)

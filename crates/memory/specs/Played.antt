@@ -1,21 +1,18 @@
 -- A script played into a log: what comes next, and what the log holds in the end.
 -- Assumes nothing.
-use mathlib.Core.Path.{_≡_}
-use mathlib.Core.List.{List}
-use Prim.Native.Nat.{ℕ, min, _<_, _≤_}
-use lib.ListN.{length, take, drop, getD}
-use Rattle·sched.specs.declared.Next.{Next}
-use Rattle·sched.specs.declared.Next.the-variants as next
-use Rattle·sched.specs.House.{empty}
-use Rattle·memory·specs.declared.entry.Entry.{Entry}
-use Rattle·memory·specs.declared.entry.Step.{Step}
-use Rattle·memory·specs.declared.entry.Step.the-variants.{Tick, Calls}
-use Rattle·memory·specs.Run.{Run, Follows, outcome}
+use Rattle.std.specs.Prelude.{◌≡◌, ℕ, ◌<◌, ◌≤◌, min, List, length, take, drop, slice_index_or}
+use Rattle.sched.specs.declared.Next.{Next}
+use Rattle.sched.specs.declared.Next.TheVariants as next
+use Rattle.sched.specs.House.{empty}
+use Rattle.memory.specs.declared.entry.Entry.{Entry}
+use Rattle.memory.specs.declared.entry.Step.{Step}
+use Rattle.memory.specs.declared.entry.Step.TheVariants.{Tick, Calls}
+use Rattle.memory.specs.Run.{Run, Follows, outcome}
 
 -- With n entries written, what comes next: the script's next step if there is one, and room for its entry.
 abbrev pub Asks : (script : List Step) (log : List Entry) (n : ℕ) → Next → Type 0
-Asks script log n (next.Calls c) = (n < length script) × (n < length log) × (getD script n Tick ≡ Calls c)
-Asks script log n next.Tick = (n < length script) × (n < length log) × (getD script n Tick ≡ Tick)
+Asks script log n (next.Calls c) = (n < length script) × (n < length log) × (slice_index_or script n Tick ≡ Calls c)
+Asks script log n next.Tick = (n < length script) × (n < length log) × (slice_index_or script n Tick ≡ Tick)
 Asks script log n next.Over = min (length script) (length log) ≤ n
 
 -- The log's first entries are a legal run from the empty house, each answers its step of the script, and the rest is as it was.

@@ -1,20 +1,14 @@
 -- A legal run: each call answered as the rules say, each tick one that may be, from a house to the house that they lead to.
 -- Assumes nothing.
-use mathlib.Core.Path.{_≡_}
-use mathlib.Core.Bool.{Bool, true, _&&_}
-use mathlib.Core.List.{List, [], _∷_}
-use Prim.Native.Nat.{ℕ}
-use lib.Dec.{T}
-use Rattle·std.specs.declared.option.Option.{Option}
-use Rattle·std.specs.declared.option.Option.the-variants.{None}
-use Rattle·sched.specs.declared.Call.{Call}
-use Rattle·sched.specs.declared.Answer.{Answer}
-use Rattle·sched.specs.Refusals.{sameAnswer}
-use Rattle·sched.specs.House.{House, calls, mayRun, after}
-use Rattle·memory·specs.declared.entry.Entry.{Entry}
-use Rattle·memory·specs.declared.entry.Entry.the-variants.{Ran, Called}
-use Rattle·memory·specs.declared.entry.Step.{Step}
-use Rattle·memory·specs.declared.entry.Step.the-variants.{Tick, Calls}
+use Rattle.std.specs.Prelude.{◌≡◌, ℕ, Bool, true, ◌&&◌, T, List, [], ◌∷◌, None, Option}
+use Rattle.sched.specs.declared.Call.{Call}
+use Rattle.sched.specs.declared.Answer.{Answer}
+use Rattle.sched.specs.Refusals.{same_answer}
+use Rattle.sched.specs.House.{House, calls, may_run, after}
+use Rattle.memory.specs.declared.entry.Entry.{Entry}
+use Rattle.memory.specs.declared.entry.Entry.TheVariants.{Ran, Called}
+use Rattle.memory.specs.declared.entry.Step.{Step}
+use Rattle.memory.specs.declared.entry.Step.TheVariants.{Tick, Calls}
 
 -- what stands where nothing was recorded
 abbrev pub blank : Entry
@@ -23,8 +17,8 @@ blank = Ran None 0
 -- from house h the entries lead to house k
 pub data Run : House → List Entry → House → Type 0 where
   over : {h : House} → Run h [] h
-  called : {h k : House} {es : List Entry} (c : Call) (a : Answer) → a ≡ calls c h .answer → Run (calls c h .house) es k → Run h (Called c a ∷ es) k
-  ran : {h k : House} {es : List Entry} (t : Option ℕ) (j : ℕ) → T (mayRun h t j) → Run (after h t) es k → Run h (Ran t j ∷ es) k
+  called : {h k : House} {es : List Entry} (c : Call) (a : Answer) → a ≡ (calls c h).answer → Run (calls c h).house es k → Run h (Called c a ∷ es) k
+  ran : {h k : House} {es : List Entry} (t : Option ℕ) (j : ℕ) → T (may_run h t j) → Run (after h t) es k → Run h (Ran t j ∷ es) k
 
 -- an entry answers a step: a call that call, a tick a tick
 pub data Answers : Step → Entry → Type 0 where
@@ -39,7 +33,7 @@ pub data Follows : List Step → List Entry → Type 0 where
 -- the house that an entry leaves
 unfoldable pub entered : House → Entry → House
 entered h (Ran t j) = after h t
-entered h (Called c a) = calls c h .house
+entered h (Called c a) = (calls c h).house
 
 -- the house that entries come to
 unfoldable pub outcome : House → List Entry → House
@@ -48,8 +42,8 @@ outcome h (e ∷ es) = outcome (entered h e) es
 
 -- Whether entries are a legal run, as a test, which a type can carry: there is one proof of it at most.
 unfoldable pub allowed : House → Entry → Bool
-allowed h (Ran t j) = mayRun h t j
-allowed h (Called c a) = sameAnswer a (calls c h .answer)
+allowed h (Ran t j) = may_run h t j
+allowed h (Called c a) = same_answer a (calls c h).answer
 
 unfoldable pub legal : House → List Entry → Bool
 legal h [] = true

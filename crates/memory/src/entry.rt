@@ -1,6 +1,5 @@
 // What a script asks for, and what a log holds.
-use sched::Answer;
-use sched::Call;
+use sched::{Answer, Call};
 
 // A step of a script.
 #[derive(Clone, Copy)]

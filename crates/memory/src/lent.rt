@@ -1,6 +1,5 @@
 // A world over lent slices: a script to hand out, a log to write.
-use crate::entry::Entry;
-use crate::entry::Step;
+use crate::entry::{Entry, Step};
 
 mod methods;
 pub mod world;

@@ -1,24 +1,18 @@
 // A script played into a log by the scheduler, step by step, and what the log then holds.
-use crate::entry::Entry;
-use crate::entry::Step;
+ghost use Rattle.std.specs.Prelude.{◌≡◌, ◌<◌, min, length, MatchOption};
+ghost use Rattle.memory.specs.Played.{Played};
+ghost use Rattle.memory.specs.Recorded.{Ended, entries_of};
+ghost use Rattle.memory.specs.Run.{Run, outcome};
+ghost use Rattle.sched.specs.House.{empty};
+
+use crate::entry::{Entry, Step};
 use crate::lent::LentRecorder;
 use crate::recorder::Recorder;
-use crate::recorder::world::RecorderWorld;
-use sched::Next;
-use sched::Scheduler;
-use sched::hours;
-ghost use mathlib.Core.Path.{_≡_};
-ghost use Prim.Native.Nat.{min, _<_};
-ghost use lib.ListN.{length};
-ghost use Rattle·memory·specs.Played.{Played};
-ghost use Rattle·memory·specs.Recorded.{Ended, entriesOf};
-ghost use Rattle·memory·specs.Run.{Run, outcome};
-ghost use Rattle·sched.specs.House.{empty};
-ghost use Rattle·std.specs.Options.{Cases as BySome};
+use sched::{Next, Scheduler, World, hours};
 
 // The hours of this script on a recorder of its own; none if it is longer than there is room for.
 pub fn recorded(script: &[Step]) -> Option<Recorder>
-    ensures { λ r. ⌜ BySome r (1024 < length (now (script .entry))) (λ w. Run empty (entriesOf w) (outcome empty (entriesOf w))) ⌝ }
+    ensures { MatchOption result (1024 < length script.now) (λ w. Run empty (entries_of w) (outcome empty (entries_of w))) }
 {
     match Recorder::new(script) {
         Some(mut w) => {
@@ -31,8 +25,8 @@ pub fn recorded(script: &[Step]) -> Option<Recorder>
 
 // Plays the script into the log from its start, as far as there is room, and says how many entries it wrote.
 pub fn play_into<'a>(script: &'a [Step], log: &'a mut [Entry]) -> usize
-    ensures many { λ r. ⌜ r ≡ min (length (now (script .entry))) (length (now (log .entry))) ⌝ }
-    ensures played { λ r. ⌜ Played (now (script .entry)) (now (log .entry)) (now (log .exit)) r ⌝ }
+    ensures many { result ≡ min (length script.now) (length log.old) }
+    ensures played { Played script.now log.old log.new result }
 {
     let many = script.len() as u64;
     let mut w = LentRecorder::new(script, log);
@@ -42,8 +36,8 @@ pub fn play_into<'a>(script: &'a [Step], log: &'a mut [Entry]) -> usize
 
 // The hours of this world: so many turns, or as many as there are steps and room.
 fn play<'a>(w: &mut LentRecorder<'a>, many: u64)
-    requires begins { ⌜ now w .used ≡ 0 ⌝ }
-    ensures { λ _. ⌜ Ended (now (w .entry)) (now (w .exit)) many ⌝ }
+    requires begins { w.old.used ≡ 0 }
+    ensures { Ended w.old w.new many }
 {
     let mut s = Scheduler::new();
     let mut n: u64 = 0;

@@ -1,12 +1,9 @@
 // A world in memory that owns its script and its log. That the log is a legal run is part of its type.
-use crate::entry::Entry;
-use crate::entry::Step;
-ghost use mathlib.Core.Path.{_≡_};
-ghost use Prim.Native.Nat.{_≤_};
-ghost use lib.Dec.{T};
-ghost use lib.ListN.{length, take};
-ghost use Rattle·sched.specs.House.{empty};
-ghost use Rattle·memory·specs.Run.{legal};
+ghost use Rattle.std.specs.Prelude.{◌≡◌, ◌≤◌, T, length, take};
+ghost use Rattle.sched.specs.House.{empty};
+ghost use Rattle.memory.specs.Run.{legal};
+
+use crate::entry::{Entry, Step};
 
 mod methods;
 pub mod world;

@@ -3,17 +3,12 @@ use crate::lanes::Lanes;
 use crate::moment::Moment;
 use crate::notes::refusal_width;
 use crate::session::Viewer;
-use crate::sheet::Band;
-use crate::sheet::Sheet;
+use crate::sheet::{Band, Sheet};
 use crate::survey::Tally;
-use layout::MOST_BANDS;
-use layout::Scale;
-use layout::Spot;
-use quantities::ids::LockId;
-use quantities::ids::TaskId;
-use sched::Answer;
-use sched::Call;
+use layout::{MOST_BANDS, Scale, Spot};
+use quantities::ids::{LockId, TaskId};
 use sched::view::Occupant;
+use sched::{Answer, Call};
 
 #[derive(Drop)]
 pub struct Bands {
@@ -99,7 +94,7 @@ fn is_nobody(occupant: Occupant) -> bool {
     }
 }
 
-pub impl Viewer for Bands as BandsViewer {
+impl Viewer for Bands {
     fn is_done(&self) -> bool {
         self.sheet.is_over(self.seen)
     }

@@ -1,14 +1,11 @@
 // Whose the ticks are: a box for each run of ticks of one task, hatched where another runs in them.
 use crate::kinds::Class;
-use crate::kinds::ClassPartialEq;
 use crate::moment::Moment;
 use crate::pen::Pen;
 use crate::shapes;
 use crate::shapes::Area;
-use crate::sheet::IDLE;
-use crate::sheet::Sheet;
-use layout::Spot;
-use layout::Stretch;
+use crate::sheet::{IDLE, Sheet};
+use layout::{Spot, Stretch};
 use quantities::ids::TaskId;
 
 // A run of ticks that are all alike.

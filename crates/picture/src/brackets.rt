@@ -2,17 +2,14 @@
 // end that says whether the quota was had.
 use crate::moment::Moment;
 use crate::pen::Pen;
-use crate::runs::Run;
-use crate::runs::Runs;
+use crate::runs::{Run, Runs};
 use crate::shapes;
 use crate::shapes::Bracket;
 use crate::sheet::Sheet;
-use layout::Spot;
-use layout::Stretch;
+use layout::{Spot, Stretch};
 use quantities::ids::TaskId;
 use sched::Kind;
-use sched::view::Occupant;
-use sched::view::View;
+use sched::view::{Occupant, View};
 use windows::Window;
 
 // The window of a reservation in a tick.

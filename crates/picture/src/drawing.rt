@@ -10,10 +10,8 @@ use crate::pen::Pen;
 use crate::session::Viewer;
 use crate::sheet::Sheet;
 use layout::Spot;
-use sched::Answer;
-use sched::Call;
-use script::sink::Sink;
-use script::sink::Stopped;
+use sched::{Answer, Call};
+use script::sink::{Sink, Stopped};
 
 #[derive(Clone, Copy)]
 pub enum Layer {
@@ -126,7 +124,7 @@ impl<'a, S: Sink> Drawing<'a, S> {
     }
 }
 
-pub impl<S: Sink> Viewer for Drawing<'_, S> as DrawingViewer {
+impl<S: Sink> Viewer for Drawing<'_, S> {
     fn is_done(&self) -> bool {
         self.sheet.is_over(self.seen)
     }

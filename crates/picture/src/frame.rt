@@ -1,17 +1,10 @@
 // What stands around the layers: the head with title and legend, and of each band the numbers of ticks and the names of rows.
 use crate::kinds::Class;
-use crate::legend;
-use crate::naming;
 use crate::pen::Pen;
-use crate::shapes;
 use crate::shapes::Area;
-use crate::sheet::AXIS;
-use crate::sheet::Band;
-use crate::sheet::IDLE;
-use crate::sheet::Sheet;
-use crate::style;
-use quantities::ids::LockId;
-use quantities::ids::TaskId;
+use crate::sheet::{AXIS, Band, IDLE, Sheet};
+use crate::{legend, naming, shapes, style};
+use quantities::ids::{LockId, TaskId};
 use sched::view::Occupant;
 
 // The head: title, legend.
@@ -106,7 +99,8 @@ fn grid(sheet: &Sheet, k: u32, pen: &mut Pen) {
     let top = band.top.saturating_add(AXIS);
     let height = band.bottom(scale).saturating_sub(top);
     for column in 0..sheet.columns(k) {
-        let number = k.saturating_mul(scale.per_band())
+        let number = k
+            .saturating_mul(scale.per_band())
             .saturating_add(column)
             .saturating_add(1);
         if column == 0 || number % scale.numbered() == 0 {
@@ -124,7 +118,8 @@ fn grid(sheet: &Sheet, k: u32, pen: &mut Pen) {
 fn task(sheet: &Sheet, band: &Band, i: TaskId, pen: &mut Pen) {
     let row = sheet.scale.row();
     let top = band.task(i, sheet.scale);
-    let base = top.saturating_add(row.boxes)
+    let base = top
+        .saturating_add(row.boxes)
         .saturating_add(row.depth.saturating_sub(2));
     let occupant = band.names[i.index()];
     let badge = Area {
@@ -150,7 +145,8 @@ fn colour(occupant: Occupant) -> &'static [u8] {
 }
 
 fn lock(sheet: &Sheet, band: &Band, m: LockId, pen: &mut Pen) {
-    let base = band.lock(m, sheet.scale)
+    let base = band
+        .lock(m, sheet.scale)
         .saturating_add(sheet.scale.row().lock.saturating_sub(5));
     shapes::open(b"S", 44, base, pen);
     pen.text(b"lock ");

@@ -1,16 +1,12 @@
 // The lowest layer: when each task is there, and when it wants a tick.
 use crate::kinds::Class;
-use crate::kinds::ClassPartialEq;
 use crate::moment::Moment;
 use crate::pen::Pen;
-use crate::runs::Run;
-use crate::runs::Runs;
+use crate::runs::{Run, Runs};
 use crate::sheet::Sheet;
-use layout::Spot;
-use layout::Stretch;
+use layout::{Spot, Stretch};
 use quantities::ids::TaskId;
-use sched::view::Occupant;
-use sched::view::View;
+use sched::view::{Occupant, View};
 
 #[derive(Clone, Copy, PartialEq, Eq)]
 enum Tint {

@@ -1,8 +1,7 @@
 // What the signs mean: three columns of four.
 use crate::pen::Pen;
 use crate::shapes;
-use crate::shapes::Area;
-use crate::shapes::Bracket;
+use crate::shapes::{Area, Bracket};
 
 const TOP: u32 = 68;
 

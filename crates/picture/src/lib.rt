@@ -1,4 +1,6 @@
 // A picture of an evening: a script is played, and what was seen is drawn as SVG.
+#![tactic(auto)]
+
 mod bands;
 mod boxes;
 mod brackets;
@@ -21,15 +23,10 @@ mod style;
 mod survey;
 
 use bands::Bands;
-use bands::BandsViewer;
-use drawing::Drawing;
-use drawing::DrawingViewer;
-use drawing::Layer;
-use script::sink::Sink;
-use script::sink::Stopped;
+use drawing::{Drawing, Layer};
+use script::sink::{Sink, Stopped};
 use session::play;
 use survey::Survey;
-use survey::SurveyViewer;
 
 // Draws the evening that a script makes. It is played once to be counted and once to be laid out, and then once for each
 // layer of the picture, so that nothing has to be kept of it but what there is at a tick.

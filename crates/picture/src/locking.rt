@@ -1,15 +1,12 @@
 // Locks: who has one, in the lock's row; who waits for one, under the boxes of the task.
 use crate::moment::Moment;
 use crate::pen::Pen;
-use crate::runs::Run;
-use crate::runs::Runs;
+use crate::runs::{Run, Runs};
 use crate::shapes;
 use crate::shapes::Area;
 use crate::sheet::Sheet;
-use layout::Spot;
-use layout::Stretch;
-use quantities::ids::LockId;
-use quantities::ids::TaskId;
+use layout::{Spot, Stretch};
+use quantities::ids::{LockId, TaskId};
 
 #[derive(Drop)]
 pub struct Locking {

@@ -1,10 +1,8 @@
 // A tick: what there was before it, whose it was, and who ran in it.
 use crate::kinds::Class;
-use quantities::ids::LockId;
-use quantities::ids::TaskId;
+use quantities::ids::{LockId, TaskId};
 use sched::Scheduler;
-use sched::view::Occupant;
-use sched::view::View;
+use sched::view::{Occupant, View};
 use windows::Window;
 
 #[derive(Drop)]

@@ -1,19 +1,13 @@
 // The uppermost layer: calls that were turned away, on the time line, and who comes to a place after another.
 use crate::lanes::Lanes;
 use crate::moment::Moment;
-use crate::naming;
 use crate::pen::Pen;
-use crate::shapes;
-use crate::sheet::AXIS;
-use crate::sheet::LANE;
-use crate::sheet::Sheet;
-use layout::Scale;
-use layout::Spot;
+use crate::sheet::{AXIS, LANE, Sheet};
+use crate::{naming, shapes};
+use layout::{Scale, Spot};
 use quantities::ids::TaskId;
-use sched::Answer;
-use sched::Call;
-use sched::Kind;
 use sched::view::Occupant;
+use sched::{Answer, Call, Kind};
 
 // How much room a refusal takes on its lane.
 pub fn refusal_width(scale: Scale) -> u32 {
@@ -73,7 +67,8 @@ impl Notes {
         let Some(lane) = self.lanes.place(x, refusal_width(sheet.scale)) else {
             return;
         };
-        let y = top.saturating_add(lane.saturating_mul(LANE))
+        let y = top
+            .saturating_add(lane.saturating_mul(LANE))
             .saturating_add(11);
         shapes::open(b"z", x, y, pen);
         if !sheet.scale.row().small {

@@ -1,11 +1,9 @@
 // Writes the elements of the picture, each on a line of its own, onto a page that is handed on now and then.
-ghost use Prim.Native.Nat.{_+_, _≤_};
-ghost use lib.ListN.{length};
-ghost use Rattle·std.specs.Written.{decimal};
-ghost use Rattle·script.specs.Printed.{Wrote};
+ghost use Rattle.std.specs.Prelude.{◌+◌, ◌≤◌, length, decimal};
+ghost use Rattle.script.specs.Printed.{Wrote};
+
 use script::page::Page;
-use script::sink::Sink;
-use script::sink::Stopped;
+use script::sink::{Sink, Stopped};
 
 // When so many elements stand on the page, it is handed on. They take up a small part of it, and what is drawn between
 // two looks takes up no more than the rest.
@@ -28,20 +26,20 @@ impl Pen {
     }
 
     pub fn text(&mut self, text: &[u8])
-        ensures { λ _. ⌜ (now (self .entry) .page .len + length (now (text .entry)) ≤ 65536 → Wrote (now (self .entry) .page) (now (self .exit) .page) (now (text .entry))) ⌝ }
+        ensures { self.old.page.len + length text.now ≤ 65536 → Wrote self.old.page self.new.page text.now }
     {
         self.page.text(text);
     }
 
     // In decimal digits.
     pub fn number(&mut self, n: u32)
-        ensures { λ _. ⌜ (now (self .entry) .page .len + 20 ≤ 65536 → Wrote (now (self .entry) .page) (now (self .exit) .page) (decimal n)) ⌝ }
+        ensures { self.old.page.len + 20 ≤ 65536 → Wrote self.old.page self.new.page (decimal n) }
     {
         self.page.number(u64::from(n));
     }
 
     pub fn long(&mut self, n: u64)
-        ensures { λ _. ⌜ (now (self .entry) .page .len + 20 ≤ 65536 → Wrote (now (self .entry) .page) (now (self .exit) .page) (decimal n)) ⌝ }
+        ensures { self.old.page.len + 20 ≤ 65536 → Wrote self.old.page self.new.page (decimal n) }
     {
         self.page.number(n);
     }

@@ -11,7 +11,7 @@ pub struct Runs<K: Drop> {
     open: [Option<Run<K>>; 64],
 }
 
-impl<K: Copy + PartialEq<K>> Runs<K> {
+impl<K: Copy + PartialEq> Runs<K> {
     pub fn new() -> Runs<K> {
         Runs { open: [None; 64] }
     }
@@ -35,7 +35,7 @@ impl<K: Copy + PartialEq<K>> Runs<K> {
     }
 }
 
-fn goes_on<K: Copy + PartialEq<K>>(old: Option<Run<K>>, what: Option<K>) -> bool {
+fn goes_on<K: Copy + PartialEq>(old: Option<Run<K>>, what: Option<K>) -> bool {
     match old {
         Some(run) => match what {
             Some(what) => run.what == what,

@@ -1,9 +1,6 @@
 // Plays a script for someone who looks on: after each call, and at each tick.
 use crate::moment::Moment;
-use sched::Answer;
-use sched::Call;
-use sched::Next;
-use sched::Scheduler;
+use sched::{Answer, Call, Next, Scheduler};
 use script::command::Command;
 use script::generator::Generator;
 use script::line::Line;

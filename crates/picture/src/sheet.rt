@@ -1,12 +1,8 @@
 // What is to be drawn, and where: the bands, and the rows of each.
 use crate::shapes::Area;
 use crate::survey::Tally;
-use layout::MOST_BANDS;
-use layout::Scale;
-use layout::Spot;
-use layout::Stretch;
-use quantities::ids::LockId;
-use quantities::ids::TaskId;
+use layout::{MOST_BANDS, Scale, Spot, Stretch};
+use quantities::ids::{LockId, TaskId};
 use sched::view::Occupant;
 
 // Height of what stands above the first band.

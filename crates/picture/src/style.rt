@@ -1,7 +1,6 @@
 // The looks of the picture. The kinds differ in lightness too, so that nobody has to tell them apart by colour alone.
 use crate::pen::Pen;
-use layout::LEFT;
-use layout::Scale;
+use layout::{LEFT, Scale};
 
 pub fn write(scale: Scale, pen: &mut Pen) {
     pen.text(b"<style>");

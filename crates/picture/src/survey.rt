@@ -2,8 +2,7 @@
 use crate::moment::Moment;
 use crate::session::Viewer;
 use layout::MOST_TICKS;
-use sched::Answer;
-use sched::Call;
+use sched::{Answer, Call};
 
 #[derive(Clone, Copy)]
 pub struct Tally {
@@ -45,7 +44,7 @@ impl Survey {
     }
 }
 
-pub impl Viewer for Survey as SurveyViewer {
+impl Viewer for Survey {
     fn is_done(&self) -> bool {
         false
     }

@@ -1,14 +1,10 @@
 // A scheduler, and how many ticks each of its tasks has had since it was made.
-ghost use mathlib.Core.Path.{_≡_};
-ghost use lib.Dec.{T};
-ghost use lib.ListN.{length, getD, set, replicate};
-ghost use Rattle·std.specs.declared.option.Option.the-variants.{None};
-ghost use Rattle·sched.specs.House.{House, empty, calls, mayRun, after};
-ghost use Rattle·sched.specs.Stores.{Holds};
-ghost use Rattle·player·specs.Session.{hadAfter, hadTick};
-use sched::Answer;
-use sched::Call;
-use sched::Scheduler;
+ghost use Rattle.std.specs.Prelude.{◌≡◌, T, length, replicate, None, slice_index_or, slice_set};
+ghost use Rattle.sched.specs.House.{House, empty, calls, may_run, after};
+ghost use Rattle.sched.specs.Stores.{Holds};
+ghost use Rattle.player.specs.Session.{had_after, had_tick};
+
+use sched::{Answer, Call, Scheduler};
 
 #[derive(Drop)]
 pub struct CountingScheduler {
@@ -20,8 +16,8 @@ pub struct CountingScheduler {
 
 impl CountingScheduler {
     pub fn new() -> CountingScheduler
-        ensures stands { λ r. ⌜ Holds (r .scheduler) empty ⌝ }
-        ensures had { λ r. ⌜ r .had ≡ replicate 64 None ⌝ }
+        ensures stands { Holds result.scheduler empty }
+        ensures had { result.had ≡ replicate 64 None }
     {
         CountingScheduler {
             scheduler: Scheduler::new(),
@@ -31,8 +27,8 @@ impl CountingScheduler {
 
     // A call, and its answer: the rules' own.
     pub fn call(&mut self, call: Call) -> Answer
-        ensures answered { λ r. ⌜ ((h : House) → Holds (now (self .entry) .scheduler) h → (r ≡ calls call h .answer) × Holds (now (self .exit) .scheduler) (calls call h .house)) ⌝ }
-        ensures had { λ r. ⌜ now (self .exit) .had ≡ hadAfter call r (now (self .entry) .had) ⌝ }
+        ensures answered { (h : House) → Holds self.old.scheduler h → (result ≡ (calls call h).answer) × Holds self.new.scheduler (calls call h).house }
+        ensures had { self.new.had ≡ had_after call result self.old.had }
     {
         let answer = self.scheduler.call(call);
         match answer {
@@ -49,8 +45,8 @@ impl CountingScheduler {
 
     // Whose the next tick is, and who runs in it: it counts for whose it is.
     pub fn tick(&mut self) -> (Option<u32>, u32)
-        ensures may { λ r. ⌜ ((h : House) → Holds (now (self .entry) .scheduler) h → T (mayRun h (r .0) (r .1)) × Holds (now (self .exit) .scheduler) (after h (r .0))) ⌝ }
-        ensures had { λ r. ⌜ now (self .exit) .had ≡ hadTick (r .0) (now (self .entry) .had) ⌝ }
+        ensures may { (h : House) → Holds self.old.scheduler h → T (may_run h result.0 result.1) × Holds self.new.scheduler (after h result.0) }
+        ensures had { self.new.had ≡ had_tick result.0 self.old.had }
     {
         let (whose, runs) = self.scheduler.pick();
         if let Some(i) = whose {
@@ -63,14 +59,14 @@ impl CountingScheduler {
 
     // How many ticks the tasks have had, by place.
     pub fn counts(&self) -> &[Option<u64>; 64]
-        ensures { λ r. ⌜ now r ≡ now (self .entry) .had ⌝ }
+        ensures { result.now ≡ self.now.had }
     {
         &self.had
     }
 
     // How many ticks the task at this place has had, if there is one.
     fn had_by(&self, i: u32) -> Option<u64>
-        ensures { λ r. ⌜ r ≡ getD (now (self .entry) .had) i None ⌝ }
+        ensures { result ≡ slice_index_or self.now.had i None }
     {
         if i >= 64 {
             return None;
@@ -79,8 +75,8 @@ impl CountingScheduler {
     }
 
     fn set_had(&mut self, i: u32, had: Option<u64>)
-        ensures wrote { λ _. ⌜ now (self .exit) .had ≡ set (now (self .entry) .had) i had ⌝ }
-        ensures same { λ _. ⌜ now (self .exit) .scheduler ≡ now (self .entry) .scheduler ⌝ }
+        ensures wrote { self.new.had ≡ slice_set self.old.had i had }
+        ensures same { self.new.scheduler ≡ self.old.scheduler }
     {
         if i < 64 {
             self.had[i as usize] = had;

@@ -1,15 +1,12 @@
 // Plays a script as it comes in, and writes the answers.
-ghost use mathlib.Core.Path.{_≡_};
-ghost use mathlib.Core.Bool.{true};
-ghost use mathlib.Core.List.{List, [], _∷_, _++_};
-ghost use Prim.Native.Nat.{ℕ, _+_};
-ghost use Rattle·std.specs.Results.{isOk};
-ghost use Rattle·std.specs.declared.option.Option.the-variants.{Some};
-ghost use Rattle·script.specs.Any.{drawn, step};
-ghost use Rattle·script.specs.Grammar.{commandOf};
-ghost use Rattle·script.specs.Printed.{Printed, pending};
-ghost use Rattle·player·specs.Session.{Session, start, lined};
-ghost use Rattle·player·specs.Standing.{At, Choosing, Chose, Ticked, Performed, Playing, Played};
+#![tactic(auto)]
+
+ghost use Rattle.std.specs.Prelude.{◌≡◌, ℕ, ◌+◌, true, List, [], ◌∷◌, ◌++◌, is_ok, Some};
+ghost use Rattle.script.specs.Any.{drawn, step};
+ghost use Rattle.script.specs.Grammar.{command_of};
+ghost use Rattle.script.specs.Printed.{Printed, pending};
+ghost use Rattle.player.specs.Session.{Session, start, lined};
+ghost use Rattle.player.specs.Standing.{At, Choosing, Chose, Ticked, Performed, Playing, Played};
 
 mod counting;
 
@@ -19,8 +16,7 @@ use script::command::Command;
 use script::generator::Generator;
 use script::line::Line;
 use script::printer::Printer;
-use script::sink::Sink;
-use script::sink::Stopped;
+use script::sink::{Sink, Stopped};
 
 #[derive(Drop)]
 pub struct Player {
@@ -33,7 +29,7 @@ pub struct Player {
 
 // Plays a whole script: the sink takes what the rules allow for it.
 pub fn play<S: Sink>(script: &[u8], out: &mut S) -> Result<(), Stopped>
-    ensures { λ r. ⌜ (isOk r ≡ true → (before : List ℕ) → S·Sink .took (now (out .entry)) before → Played (S·Sink .took) (now (out .exit)) before (now (script .entry))) ⌝ }
+    ensures { is_ok result ≡ true → (before : List ℕ) → S.Sink.took out.old before → Played S.Sink.took out.new before script.now }
 {
     let mut player = Player::new();
     player.feed(script, out)?;
@@ -42,8 +38,8 @@ pub fn play<S: Sink>(script: &[u8], out: &mut S) -> Result<(), Stopped>
 
 impl Player {
     pub fn new() -> Player
-        ensures at { λ r. ⌜ At r start [] ⌝ }
-        ensures empty { λ r. ⌜ pending (r .printer .page) ≡ [] ⌝ }
+        ensures at { At result start [] }
+        ensures empty { pending result.printer.page ≡ [] }
     {
         Player {
             counting: CountingScheduler::new(),
@@ -55,8 +51,8 @@ impl Player {
 
     // More of the script. The answers to all of its whole lines have been handed on when it returns.
     pub fn feed<S: Sink>(&mut self, bytes: &[u8], out: &mut S) -> Result<(), Stopped>
-        ensures empty { λ r. ⌜ (isOk r ≡ true → pending (now (self .exit) .printer .page) ≡ []) ⌝ }
-        ensures playing { λ r. ⌜ (isOk r ≡ true → (before script : List ℕ) → Playing (S·Sink .took) (now (self .entry)) (now (out .entry)) before script → Playing (S·Sink .took) (now (self .exit)) (now (out .exit)) before (script ++ now (bytes .entry))) ⌝ }
+        ensures empty { is_ok result ≡ true → pending self.new.printer.page ≡ [] }
+        ensures playing { is_ok result ≡ true → (before script : List ℕ) → Playing S.Sink.took self.old out.old before script → Playing S.Sink.took self.new out.new before (script ++ bytes.now) }
     {
         for k in 0..bytes.len() {
             self.take(bytes[k], out)?;
@@ -66,7 +62,7 @@ impl Player {
 
     // One byte more.
     fn take<S: Sink>(&mut self, byte: u8, out: &mut S) -> Result<(), Stopped>
-        ensures { λ r. ⌜ (isOk r ≡ true → (before script : List ℕ) → Playing (S·Sink .took) (now (self .entry)) (now (out .entry)) before script → Playing (S·Sink .took) (now (self .exit)) (now (out .exit)) before (script ++ (byte ∷ []))) ⌝ }
+        ensures { is_ok result ≡ true → (before script : List ℕ) → Playing S.Sink.took self.old out.old before script → Playing S.Sink.took self.new out.new before (script ++ (byte ∷ [])) }
     {
         if byte == b'\n' {
             return self.end_line(out);
@@ -77,7 +73,7 @@ impl Player {
 
     // The script is over; a last line may lack its newline.
     pub fn finish<S: Sink>(&mut self, out: &mut S) -> Result<(), Stopped>
-        ensures { λ r. ⌜ (isOk r ≡ true → (before script : List ℕ) → Playing (S·Sink .took) (now (self .entry)) (now (out .entry)) before script → Played (S·Sink .took) (now (out .exit)) before script) ⌝ }
+        ensures { is_ok result ≡ true → (before script : List ℕ) → Playing S.Sink.took self.old out.old before script → Played S.Sink.took out.new before script }
     {
         let begun = self.line.is_begun();
         if !begun {
@@ -88,7 +84,7 @@ impl Player {
     }
 
     fn end_line<S: Sink>(&mut self, out: &mut S) -> Result<(), Stopped>
-        ensures { λ r. ⌜ (isOk r ≡ true → (e : Session) (l xs : List ℕ) → At (now (self .entry)) e l → Printed (S·Sink .took) (now (out .entry)) (now (self .entry) .printer .page) xs → Performed (S·Sink .took) (lined e) l (now (self .exit)) (now (out .exit)) [] xs) ⌝ }
+        ensures { is_ok result ≡ true → (e : Session) (l xs : List ℕ) → At self.old e l → Printed S.Sink.took out.old self.old.printer.page xs → Performed S.Sink.took (lined e) l self.new out.new [] xs }
     {
         self.lines = self.lines.saturating_add(1);
         let asked = self.line.command();
@@ -100,7 +96,7 @@ impl Player {
     }
 
     fn perform<S: Sink>(&mut self, command: Command, out: &mut S) -> Result<(), Stopped>
-        ensures { λ r. ⌜ (isOk r ≡ true → (e : Session) (l rest xs : List ℕ) → At (now (self .entry)) e rest → commandOf l ≡ Some command → Printed (S·Sink .took) (now (out .entry)) (now (self .entry) .printer .page) xs → Performed (S·Sink .took) e l (now (self .exit)) (now (out .exit)) rest xs) ⌝ }
+        ensures { is_ok result ≡ true → (e : Session) (l rest xs : List ℕ) → At self.old e rest → command_of l ≡ Some command → Printed S.Sink.took out.old self.old.printer.page xs → Performed S.Sink.took e l self.new out.new rest xs }
     {
         match command {
             Command::Call(call) => {
@@ -117,7 +113,7 @@ impl Player {
     }
 
     fn ticks<S: Sink>(&mut self, many: u32, out: &mut S) -> Result<(), Stopped>
-        ensures { λ r. ⌜ (isOk r ≡ true → (e : Session) (rest xs : List ℕ) → At (now (self .entry)) e rest → Printed (S·Sink .took) (now (out .entry)) (now (self .entry) .printer .page) xs → Ticked (S·Sink .took) many e (now (self .exit)) (now (out .exit)) rest xs) ⌝ }
+        ensures { is_ok result ≡ true → (e : Session) (rest xs : List ℕ) → At self.old e rest → Printed S.Sink.took out.old self.old.printer.page xs → Ticked S.Sink.took many e self.new out.new rest xs }
     {
         for _k in 0..many {
             let (whose, runs) = self.counting.tick();
@@ -128,8 +124,8 @@ impl Player {
 
     // Nothing is written for these.
     fn any(&mut self, seed: u32, many: u32)
-        ensures chose { λ _. ⌜ ((e : Session) (rest : List ℕ) → At (now (self .entry)) e rest → Chose seed many e (now (self .exit)) rest) ⌝ }
-        ensures silent { λ _. ⌜ now (self .exit) .printer ≡ now (self .entry) .printer ⌝ }
+        ensures chose { (e : Session) (rest : List ℕ) → At self.old e rest → Chose seed many e self.new rest }
+        ensures silent { self.new.printer ≡ self.old.printer }
     {
         let mut generator = Generator::new(seed);
         for _k in 0..many {
@@ -139,8 +135,8 @@ impl Player {
     }
 
     fn go(&mut self, chosen: Next)
-        ensures goes { λ _. ⌜ ((seed n x y : ℕ) (e : Session) (rest : List ℕ) → Choosing seed n x e (now (self .entry)) rest → drawn chosen y ≡ step x → Choosing seed (n + 1) y e (now (self .exit)) rest) ⌝ }
-        ensures silent { λ _. ⌜ now (self .exit) .printer ≡ now (self .entry) .printer ⌝ }
+        ensures goes { (seed n x y : ℕ) (e : Session) (rest : List ℕ) → Choosing seed n x e self.old rest → drawn chosen y ≡ step x → Choosing seed (n + 1) y e self.new rest }
+        ensures silent { self.new.printer ≡ self.old.printer }
     {
         match chosen {
             Next::Calls(call) => {

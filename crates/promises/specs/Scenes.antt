@@ -1,14 +1,12 @@
 -- Short scenes, each a list of calls with the answers that they must get from an empty house on.
-use mathlib.Core.Bool.{Bool, true, _&&_}
-use mathlib.Core.List.{List, [], _∷_}
-use lib.Dec.{T}
-use Rattle·sched.specs.declared.Kind.the-variants.{Reserved, Fixed, Fair}
-use Rattle·sched.specs.declared.Call.{Call}
-use Rattle·sched.specs.declared.Call.the-variants.{Make, Wake, Lock}
-use Rattle·sched.specs.declared.Answer.{Answer}
-use Rattle·sched.specs.declared.Answer.the-variants.{Done, Id, No}
-use Rattle·sched.specs.Refusals.{sameAnswer}
-use Rattle·sched.specs.House.{House, empty, calls}
+use Rattle.std.specs.Prelude.{Bool, true, ◌&&◌, T, List, [], ◌∷◌}
+use Rattle.sched.specs.declared.Kind.TheVariants.{Reserved, Fixed, Fair}
+use Rattle.sched.specs.declared.Call.{Call}
+use Rattle.sched.specs.declared.Call.TheVariants.{Make, Wake, Lock}
+use Rattle.sched.specs.declared.Answer.{Answer}
+use Rattle.sched.specs.declared.Answer.TheVariants.{Done, Id, No}
+use Rattle.sched.specs.Refusals.{same_answer}
+use Rattle.sched.specs.House.{House, empty, calls}
 
 abbrev pub Scene : Type 0
 Scene = List (Call × Answer)
@@ -16,30 +14,30 @@ Scene = List (Call × Answer)
 -- each call is answered as it's written, from h on
 unfoldable pub plays : House → Scene → Bool
 plays h [] = true
-plays h (x ∷ xs) = sameAnswer (calls (x .0) h .answer) (x .1) && plays (calls (x .0) h .house) xs
+plays h (x ∷ xs) = same_answer (calls x.0 h).answer x.1 && plays (calls x.0 h).house xs
 
-unfoldable pub playsAll : List Scene → Bool
-playsAll [] = true
-playsAll (s ∷ ss) = plays empty s && playsAll ss
+unfoldable pub plays_all : List Scene → Bool
+plays_all [] = true
+plays_all (s ∷ ss) = plays empty s && plays_all ss
 
 -- no such quota, period, rank or weight
-abbrev pub badKinds : Scene
-badKinds =
+abbrev pub bad_kinds : Scene
+bad_kinds =
     (Make (Reserved 0 10), No 1) ∷ (Make (Reserved 3 3), No 1) ∷ (Make (Reserved 1 11), No 1) ∷ (Make (Fixed 16), No 1) ∷ (Make (Fair 0), No 1) ∷ []
 
 -- three quarters are given away, and not one part of 10,080 more
-abbrev pub fullHouse : Scene
-fullHouse = (Make (Reserved 3 4), Id 0) ∷ (Make (Reserved 1 10080), No 3) ∷ []
+abbrev pub full_house : Scene
+full_house = (Make (Reserved 3 4), Id 0) ∷ (Make (Reserved 1 10080), No 3) ∷ []
 
 -- who has a lock isn't given it again, and who waits can't lock
-abbrev pub lockTwice : Scene
-lockTwice =
+abbrev pub lock_twice : Scene
+lock_twice =
     (Make (Fair 1), Id 0) ∷ (Make (Fair 1), Id 1) ∷ (Wake 0, Done) ∷ (Wake 1, Done) ∷ (Lock 0 5, Done) ∷ (Lock 1 5, Done) ∷ (Lock 0 5, No 5) ∷ (Lock 1 5, No 9) ∷ []
 
 -- the call that would close a ring is refused
-abbrev pub ringOfTwo : Scene
-ringOfTwo =
+abbrev pub ring_of_two : Scene
+ring_of_two =
     (Make (Fair 1), Id 0) ∷ (Make (Fair 1), Id 1) ∷ (Wake 0, Done) ∷ (Wake 1, Done) ∷ (Lock 0 5, Done) ∷ (Lock 1 6, Done) ∷ (Lock 0 6, Done) ∷ (Lock 1 5, No 5) ∷ []
 
 abbrev pub ScenesPlay : Type 0
-ScenesPlay = T (playsAll (badKinds ∷ fullHouse ∷ lockTwice ∷ ringOfTwo ∷ []))
+ScenesPlay = T (plays_all (bad_kinds ∷ full_house ∷ lock_twice ∷ ring_of_two ∷ []))

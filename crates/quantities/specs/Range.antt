@@ -1,7 +1,6 @@
 -- Which reservations there are.
 -- Assumes nothing.
-use mathlib.Core.Path.{_≡_}
-use Prim.Native.Nat.{ℕ, _%_, _≤_}
+use Rattle.std.specs.Prelude.{◌≡◌, ℕ, ◌%◌, ◌≤◌}
 
 -- The period is at least 4 and divides 10,080; the quota is at least 1 and at most the period.
 abbrev pub GoodReservation : (q p : ℕ) → Type 0

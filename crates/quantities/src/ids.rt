@@ -1,7 +1,5 @@
 // The places of tasks, and the locks: 64 of each, numbered from 0.
-ghost use mathlib.Core.Path.{_≡_};
-ghost use Prim.Native.Nat.{_<_, _≤_};
-ghost use Rattle·std.specs.Options.{Cases as BySome};
+ghost use Rattle.std.specs.Prelude.{◌≡◌, ◌<◌, ◌≤◌, MatchOption};
 
 // The place of a task.
 #[derive(Clone, Copy)]
@@ -13,7 +11,7 @@ pub struct TaskId {
 impl TaskId {
     // The place of this number, if there is one.
     pub fn new(number: u32) -> Option<Self>
-        ensures { λ r. ⌜ BySome r (64 ≤ number) (λ t. (t .index ≡ number) × (number < 64)) ⌝ }
+        ensures { MatchOption result (64 ≤ number) (λ t. (t.index ≡ number) × (number < 64)) }
     {
         if number >= 64 {
             return None;
@@ -24,15 +22,15 @@ impl TaskId {
     }
 
     pub fn index(self) -> usize
-        ensures value { λ r. ⌜ r ≡ self .index ⌝ }
-        ensures bound { λ r. ⌜ r < 64 ⌝ }
+        ensures value { result ≡ self.index }
+        ensures bound { result < 64 }
     {
         self.number() as usize
     }
 
     pub fn number(self) -> u32
-        ensures value { λ r. ⌜ r ≡ self .index ⌝ }
-        ensures bound { λ r. ⌜ r < 64 ⌝ }
+        ensures value { result ≡ self.index }
+        ensures bound { result < 64 }
     {
         self.index as u32
     }
@@ -48,7 +46,7 @@ pub struct LockId {
 impl LockId {
     // The lock of this number, if there is one.
     pub fn new(lock: u32) -> Option<Self>
-        ensures { λ r. ⌜ BySome r (64 ≤ lock) (λ m. (m .index ≡ lock) × (lock < 64)) ⌝ }
+        ensures { MatchOption result (64 ≤ lock) (λ m. (m.index ≡ lock) × (lock < 64)) }
     {
         if lock >= 64 {
             return None;
@@ -57,8 +55,8 @@ impl LockId {
     }
 
     pub fn index(self) -> usize
-        ensures value { λ r. ⌜ r ≡ self .index ⌝ }
-        ensures bound { λ r. ⌜ r < 64 ⌝ }
+        ensures value { result ≡ self.index }
+        ensures bound { result < 64 }
     {
         self.index as usize
     }

@@ -1,8 +1,6 @@
 // What a task is promised: a quota of each period, a rank, or a weight.
-ghost use mathlib.Core.Path.{_≡_};
-ghost use Prim.Native.Nat.{_*_, _/_, _<_, _≤_};
-ghost use Rattle·std.specs.Options.{Cases as BySome};
-ghost use Rattle·quantities·specs.Range.{GoodReservation};
+ghost use Rattle.std.specs.Prelude.{◌≡◌, ◌*◌, ◌/◌, ◌<◌, ◌≤◌, MatchOption};
+ghost use Rattle.quantities.specs.Range.{GoodReservation};
 
 // A place in the order of fixed tasks: 0 to 15, of which 0 goes first.
 #[derive(Clone, Copy)]
@@ -13,7 +11,7 @@ pub struct Rank {
 
 impl Rank {
     pub fn new(number: u32) -> Option<Self>
-        ensures { λ r. ⌜ BySome r (16 ≤ number) (λ k. (k .value ≡ number) × (number < 16)) ⌝ }
+        ensures { MatchOption result (16 ≤ number) (λ k. (k.value ≡ number) × (number < 16)) }
     {
         if number >= 16 {
             return None;
@@ -24,8 +22,8 @@ impl Rank {
     }
 
     pub fn index(self) -> usize
-        ensures value { λ r. ⌜ r ≡ self .value ⌝ }
-        ensures bound { λ r. ⌜ r < 16 ⌝ }
+        ensures value { result ≡ self.value }
+        ensures bound { result < 16 }
     {
         self.value as usize
     }
@@ -41,7 +39,7 @@ pub struct Weight {
 
 impl Weight {
     pub fn new(number: u32) -> Option<Self>
-        ensures { λ r. ⌜ BySome r ((1 ≤ number → number ≤ 1024 → ⊥)) (λ w. (w .value ≡ number) × (1 ≤ number) × (number ≤ 1024)) ⌝ }
+        ensures { MatchOption result ((1 ≤ number → number ≤ 1024 → ⊥)) (λ w. (w.value ≡ number) × (1 ≤ number) × (number ≤ 1024)) }
     {
         if number == 0 || number > 1024 {
             return None;
@@ -53,15 +51,15 @@ impl Weight {
 
     // The weight of a position that no task has: one part is a whole.
     pub fn one() -> Self
-        ensures { λ r. ⌜ r .value ≡ 1 ⌝ }
+        ensures { result.value ≡ 1 }
     {
         Weight { value: 1 }
     }
 
     pub fn get(self) -> u32
-        ensures value { λ r. ⌜ r ≡ self .value ⌝ }
-        ensures positive { λ r. ⌜ 1 ≤ r ⌝ }
-        ensures bound { λ r. ⌜ r ≤ 1024 ⌝ }
+        ensures value { result ≡ self.value }
+        ensures positive { 1 ≤ result }
+        ensures bound { result ≤ 1024 }
     {
         self.value as u32
     }
@@ -76,8 +74,8 @@ pub struct Share {
 
 impl Share {
     pub fn parts(self) -> u32
-        ensures value { λ r. ⌜ r ≡ self .parts ⌝ }
-        ensures bound { λ r. ⌜ r ≤ 10080 ⌝ }
+        ensures value { result ≡ self.parts }
+        ensures bound { result ≤ 10080 }
     {
         self.parts as u32
     }
@@ -93,7 +91,7 @@ pub struct Reservation {
 
 impl Reservation {
     pub fn new(quota: u32, period: u32) -> Option<Self>
-        ensures { λ r. ⌜ BySome r (GoodReservation quota period → ⊥) (λ s. (s .quota ≡ quota) × (s .period ≡ period) × GoodReservation quota period) ⌝ }
+        ensures { MatchOption result (GoodReservation quota period → ⊥) (λ s. (s.quota ≡ quota) × (s.period ≡ period) × GoodReservation quota period) }
     {
         if period < 4 || period > 10_080 || 10_080 % period != 0 || quota == 0 || quota > period {
             return None;
@@ -105,24 +103,24 @@ impl Reservation {
     }
 
     pub fn quota(self) -> u32
-        ensures value { λ r. ⌜ r ≡ self .quota ⌝ }
-        ensures positive { λ r. ⌜ 1 ≤ r ⌝ }
-        ensures bound { λ r. ⌜ r ≤ self .period ⌝ }
+        ensures value { result ≡ self.quota }
+        ensures positive { 1 ≤ result }
+        ensures bound { result ≤ self.period }
     {
         self.quota as u32
     }
 
     pub fn period(self) -> u32
-        ensures value { λ r. ⌜ r ≡ self .period ⌝ }
-        ensures low_bound { λ r. ⌜ 4 ≤ r ⌝ }
-        ensures bound { λ r. ⌜ r ≤ 10080 ⌝ }
+        ensures value { result ≡ self.period }
+        ensures low_bound { 4 ≤ result }
+        ensures bound { result ≤ 10080 }
     {
         self.period as u32
     }
 
     // The quota as a part of the processor, exact since the period divides 10,080.
     pub fn share(self) -> Share
-        ensures { λ r. ⌜ r .parts ≡ self .quota * (10080 / self .period) ⌝ }
+        ensures { result.parts ≡ self.quota * (10080 / self.period) }
     {
         Share {
             parts: self.quota * (10_080 / self.period),

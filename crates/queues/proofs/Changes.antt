@@ -1,32 +1,28 @@
 -- What the calls that change the queues come to.
-use mathlib.Core.Path.{_≡_, refl, sym, ap, _∙_, subst}
-use mathlib.Core.Logic.{inl, inr}
-use mathlib.Core.Bool.{true, false}
-use mathlib.Core.List.{List, [], _∷_, _++_}
-use Prim.Native.Nat.{ℕ, _≤_, _<_}
-use Rattle·std.proofs.shelf.Tests.{cases-eq, eq-eqb, ne-eqb}
-use Rattle·queues·specs.declared.fifo.Queues.{Queues}
-use Rattle·queues·specs.Members.{Member, Free, times, rest, without, put}
-use Rattle·queues·specs.Rings.{Holds}
-use Rattle·queues·specs.Writes.{appended, unlinked}
-use Rattle·queues·specs.Outcomes.{Pushed, Removed, Moved}
-use Rattle·queues·proofs.Lists.{first-once, without-none, not-without}
-use Rattle·queues·proofs.Standing.{in-one, holds-same}
-use Rattle·queues·proofs.Removal.{unlinked-holds}
-use Rattle·queues·proofs.Arrival.{appended-holds}
+use Rattle.std.proofs.Common.{◌≡◌, ℕ, ◌<◌, ◌≤◌, true, false, List, [], ◌∷◌, ◌++◌, sym, refl, ap, ◌∙◌, subst, inl, inr}
+use Rattle.std.proofs.lemmas.Bool.{cases_eq, eq-eqb, ne_eqb}
+use Rattle.queues.specs.declared.fifo.Queues.{Queues}
+use Rattle.queues.specs.Members.{Member, Free, times, rest, without, put}
+use Rattle.queues.specs.Rings.{Holds}
+use Rattle.queues.specs.Writes.{appended, unlinked}
+use Rattle.queues.specs.Outcomes.{Pushed, Removed, Moved}
+use Rattle.queues.proofs.Lists.{first-once, without-none, not-without}
+use Rattle.queues.proofs.Standing.{in_one, holds_same}
+use Rattle.queues.proofs.Removal.{unlinked-holds}
+use Rattle.queues.proofs.Arrival.{appended-holds}
 
 -- queues that agree with f but for q, where they are xs
 same-put : (f g : ℕ → List ℕ) (q : ℕ) (xs : List ℕ) → g q ≡ xs → ((r : ℕ) → (r ≡ q → ⊥) → g r ≡ f r) → (r : ℕ) → g r ≡ put q xs f r
 same-put f g q xs e others r =
-    elim (cases-eq r q) [
+    elim (cases_eq r q) [
       | inl w ↦ rw (eq-eqb r q w) (ap g w ∙ e)
-      | inr n ↦ rw (ne-eqb r q n) (others r n)
+      | inr n ↦ rw (ne_eqb r q n) (others r n)
     ]
 
 module _ {s : Queues} {f : ℕ → List ℕ} (h : Holds s f) where
   -- it stands in no other queue, so the others stay as they are
   elsewhere : (q i : ℕ) → Member i (f q) → (r : ℕ) → (r ≡ q → ⊥) → without i (f r) ≡ f r
-  elsewhere q i m r n = without-none i (f r) (λ k. n (in-one h i r q k m))
+  elsewhere q i m r n = without-none i (f r) (λ k. n (in_one h i r q k m))
 
 module _ {s t : Queues} {f : ℕ → List ℕ} (h : Holds s f) where
   pub pushed : (q i : ℕ) → q < 64 → i < 64 → Free f i → t ≡ appended q i s → Pushed t f q i true
@@ -47,24 +43,24 @@ module _ {s t : Queues} {f : ℕ → List ℕ} (h : Holds s f) where
   moved q i m e = record {
     free = λ free. absurd (free q m);
     stood = λ _ _. refl;
-    after = λ p k. subst (λ r. Holds t (put r (without i (f r) ++ (i ∷ [])) f)) (in-one h i q p m k) (subst (λ u. Holds u (put q (without i (f q) ++ (i ∷ [])) f)) (sym e) last);
+    after = λ p k. subst (λ r. Holds t (put r (without i (f r) ++ (i ∷ [])) f)) (in_one h i q p m k) (subst (λ u. Holds u (put q (without i (f q) ++ (i ∷ [])) f)) (sym e) last);
   }
     where
       -- first out of its queue, then last in it
       twice : Holds (appended q i (unlinked q i s)) (put q (without i (f q) ++ (i ∷ [])) (λ p. without i (f p)))
-      twice = appended-holds (unlinked q i s) (λ p. without i (f p)) q i (unlinked-holds s f q i h m) (λ p. not-without i (f p)) (h .queue q i m) (h .member q i m)
+      twice = appended-holds (unlinked q i s) (λ p. without i (f p)) q i (unlinked-holds s f q i h m) (λ p. not-without i (f p)) (h.queue q i m) (h.member q i m)
 
       last : Holds (appended q i (unlinked q i s)) (put q (without i (f q) ++ (i ∷ [])) f)
-      last = holds-same twice (same-put f (put q (without i (f q) ++ (i ∷ [])) (λ p. without i (f p))) q (without i (f q) ++ (i ∷ [])) (rw (eq-eqb q q refl) refl) (λ r n. rw (ne-eqb r q n) (elsewhere h q i m r n)))
+      last = holds_same twice (same-put f (put q (without i (f q) ++ (i ∷ [])) (λ p. without i (f p))) q (without i (f q) ++ (i ∷ [])) (rw (eq-eqb q q refl) refl) (λ r n. rw (ne_eqb r q n) (elsewhere h q i m r n)))
 
   pub popped : (q i : ℕ) → f q ≡ i ∷ rest (f q) → t ≡ unlinked q i s → Holds t (put q (rest (f q)) f)
-  popped q i e w = subst (λ u. Holds u (put q (rest (f q)) f)) (sym w) (holds-same (unlinked-holds s f q i h m) (same-put f (λ p. without i (f p)) q (rest (f q)) own (elsewhere h q i m)))
+  popped q i e w = subst (λ u. Holds u (put q (rest (f q)) f)) (sym w) (holds_same (unlinked-holds s f q i h m) (same-put f (λ p. without i (f p)) q (rest (f q)) own (elsewhere h q i m)))
     where
       m : Member i (f q)
       m = subst (λ l. Member i l) (sym e) (inl refl)
 
       own : without i (f q) ≡ rest (f q)
-      own = ap (λ l. without i l) e ∙ (rw (eq-eqb i i refl) (without-none i (rest (f q)) (first-once i (rest (f q)) (subst (λ l. times i l ≤ 1) e (h .once q i)))))
+      own = ap (λ l. without i l) e ∙ (rw (eq-eqb i i refl) (without-none i (rest (f q)) (first-once i (rest (f q)) (subst (λ l. times i l ≤ 1) e (h.once q i)))))
 
 -- where nothing is done
 module _ {s : Queues} {f : ℕ → List ℕ} (h : Holds s f) where
@@ -72,11 +68,11 @@ module _ {s : Queues} {f : ℕ → List ℕ} (h : Holds s f) where
   not-removed i free = record {
     free = λ _. refl;
     stood = λ p m. absurd (free p m);
-    after = holds-same h (λ q. sym (without-none i (f q) (free q)));
+    after = holds_same h (λ q. sym (without-none i (f q) (free q)));
   }
 
   pub not-moved : (i : ℕ) → Free f i → Moved s f i false
   not-moved i free = record { free = λ _. refl; stood = λ p m. absurd (free p m); after = λ p m. absurd (free p m) }
 
-  pub not-popped : (q : ℕ) → f q ≡ [] → Holds s (put q (rest (f q)) f)
-  not-popped q e = holds-same h (same-put f f q (rest (f q)) (e ∙ sym (ap rest e)) (λ r n. refl))
+  pub not_popped : (q : ℕ) → f q ≡ [] → Holds s (put q (rest (f q)) f)
+  not_popped q e = holds_same h (same-put f f q (rest (f q)) (e ∙ sym (ap rest e)) (λ r n. refl))

@@ -1,11 +1,6 @@
 -- Lists of members: who stands in one, how often, and what is left of it.
 -- Assumes nothing.
-use mathlib.Core.Path.{_≡_}
-use mathlib.Core.Logic.{_⊎_}
-use mathlib.Core.Bool.{cond}
-use mathlib.Core.List.{List, [], _∷_}
-use Prim.Native.Nat.{ℕ, _+_}
-use lib.Dec.{eqb}
+use Rattle.std.specs.Prelude.{◌≡◌, ℕ, ◌+◌, cond, ◌⊎◌, List, [], ◌∷◌, ◌==◌}
 
 abbrev pub Member : ℕ → List ℕ → Type 0
 Member i [] = ⊥
@@ -17,11 +12,11 @@ Free f i = (q : ℕ) → Member i (f q) → ⊥
 
 abbrev pub times : ℕ → List ℕ → ℕ
 times i [] = 0
-times i (j ∷ js) = cond (eqb i j) 1 0 + times i js
+times i (j ∷ js) = cond (i == j) 1 0 + times i js
 
 abbrev pub without : ℕ → List ℕ → List ℕ
 without i [] = []
-without i (j ∷ js) = cond (eqb i j) (without i js) (j ∷ without i js)
+without i (j ∷ js) = cond (i == j) (without i js) (j ∷ without i js)
 
 -- all but the first
 abbrev pub rest : List ℕ → List ℕ
@@ -29,4 +24,4 @@ rest [] = []
 rest (j ∷ js) = js
 
 abbrev pub put : {X : Type 0} → ℕ → X → (ℕ → X) → ℕ → X
-put k y f j = cond (eqb j k) y (f j)
+put k y f j = cond (j == k) y (f j)

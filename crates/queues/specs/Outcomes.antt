@@ -1,24 +1,19 @@
 -- What the operations come to, for the queues that a state stands for.
 -- Assumes nothing.
-use mathlib.Core.Path.{_≡_}
-use mathlib.Core.Bool.{Bool, true, false}
-use mathlib.Core.List.{List, [], _∷_, _++_}
-use Prim.Native.Nat.{ℕ}
-use Rattle·std.specs.Options.{Cases as BySome}
-use Rattle·std.specs.declared.option.Option.{Option}
-use Rattle·quantities.specs.declared.ids.TaskId.{TaskId}
-use Rattle·queues·specs.Members.{Member, Free, rest, without, put}
-use Rattle·queues·specs.Rings.{Holds}
-use Rattle·queues·specs.declared.queue_id.QueueId.{QueueId}
-use Rattle·queues·specs.declared.fifo.Queues.{Queues}
+use Rattle.std.specs.Prelude.{◌≡◌, ℕ, Bool, true, false, List, [], ◌∷◌, ◌++◌, Option, MatchOption}
+use Rattle.quantities.specs.declared.ids.TaskId.{TaskId}
+use Rattle.queues.specs.Members.{Member, Free, rest, without, put}
+use Rattle.queues.specs.Rings.{Holds}
+use Rattle.queues.specs.declared.queue_id.QueueId.{QueueId}
+use Rattle.queues.specs.declared.fifo.Queues.{Queues}
 
 -- r is the first of the list, if it has one
 abbrev pub First : List ℕ → Option TaskId → Type 0
-First xs r = BySome r (xs ≡ []) (λ t. xs ≡ (t .index ∷ rest xs))
+First xs r = MatchOption r (xs ≡ []) (λ t. xs ≡ (t.index ∷ rest xs))
 
 -- r is the one queue in which i stands, if it stands in one
 abbrev pub StandsIn : (ℕ → List ℕ) → ℕ → Option QueueId → Type 0
-StandsIn f i r = BySome r (Free f i) (λ q. Member i (f (q .index)) × ((p : ℕ) → Member i (f p) → p ≡ q .index))
+StandsIn f i r = MatchOption r (Free f i) (λ q. Member i (f q.index) × ((p : ℕ) → Member i (f p) → p ≡ q.index))
 
 -- The state stood for f and is now t, and r is the answer.
 -- i is put last in q, unless it stood in a queue

@@ -1,33 +1,28 @@
 -- What the links stand for: each queue is a ring through 64, which follows the last and comes before the first.
 -- Assumes nothing.
-use mathlib.Core.Path.{_≡_}
-use mathlib.Core.Bool.{cond}
-use mathlib.Core.List.{List, [], _∷_}
-use Prim.Native.Nat.{ℕ, _<_, _≤_}
-use lib.Dec.{ltb}
-use lib.ListN.{length, getD}
-use Rattle·queues·specs.Members.{Member, times}
-use Rattle·queues·specs.declared.fifo.Link.{Link}
-use Rattle·queues·specs.declared.fifo.Ends.{Ends}
-use Rattle·queues·specs.declared.fifo.Queues.{Queues}
+use Rattle.std.specs.Prelude.{◌≡◌, ℕ, ◌<◌, ◌≤◌, cond, List, [], ◌∷◌, length, nat_lt, slice_index_or}
+use Rattle.queues.specs.Members.{Member, times}
+use Rattle.queues.specs.declared.fifo.Link.{Link}
+use Rattle.queues.specs.declared.fifo.Ends.{Ends}
+use Rattle.queues.specs.declared.fifo.Queues.{Queues}
 
-abbrev pub linkOf : Queues → ℕ → Link
-linkOf s i = getD (s .links) i (record { next = 0; prev = 0; at = 0 })
+abbrev pub link_of : Queues → ℕ → Link
+link_of s i = slice_index_or s.links i (record { next = 0; prev = 0; at = 0 })
 
-abbrev pub endsOf : Queues → ℕ → Ends
-endsOf s q = getD (s .ends) q (record { head = 0; tail = 0 })
+abbrev pub ends_of : Queues → ℕ → Ends
+ends_of s q = slice_index_or s.ends q (record { head = 0; tail = 0 })
 
 -- the number of the queue in which i stands, or 64
-abbrev pub placeOf : Queues → ℕ → ℕ
-placeOf s i = linkOf s i .at
+abbrev pub place_of : Queues → ℕ → ℕ
+place_of s i = (link_of s i).at
 
 -- who comes after a in the ring of q
 unfoldable pub after : Queues → ℕ → ℕ → ℕ
-after s q a = cond (ltb a 64) (linkOf s a .next) (endsOf s q .head)
+after s q a = cond (nat_lt a 64) (link_of s a).next (ends_of s q).head
 
 -- who comes before b in the ring of q
 unfoldable pub before : Queues → ℕ → ℕ → ℕ
-before s q b = cond (ltb b 64) (linkOf s b .prev) (endsOf s q .tail)
+before s q b = cond (nat_lt b 64) (link_of s b).prev (ends_of s q).tail
 
 abbrev pub Linked : Queues → (q a b : ℕ) → Type 0
 Linked s q a b = (after s q a ≡ b) × (before s q b ≡ a)
@@ -39,14 +34,14 @@ Ring s q a (i ∷ is) = Linked s q a i × Ring s q i is
 
 -- s stands for the queues f, of which f q is queue q, the first first
 pub record Holds (s : Queues) (f : ℕ → List ℕ) : Type 0 where
-  pub members : length (s .links) ≡ 64
-  pub queues : length (s .ends) ≡ 64
+  pub members : length s.links ≡ 64
+  pub queues : length s.ends ≡ 64
   pub ring : (q : ℕ) → q < 64 → Ring s q 64 (f q)
   -- members and queues are below 64
   pub member : (q i : ℕ) → Member i (f q) → i < 64
   pub queue : (q i : ℕ) → Member i (f q) → q < 64
   -- a member's place names the queue that it stands in, so it stands in no other
-  pub place : (q i : ℕ) → Member i (f q) → placeOf s i ≡ q
-  pub found : (i : ℕ) → i < 64 → placeOf s i < 64 → Member i (f (placeOf s i))
+  pub place : (q i : ℕ) → Member i (f q) → place_of s i ≡ q
+  pub found : (i : ℕ) → i < 64 → place_of s i < 64 → Member i (f (place_of s i))
   -- and nobody stands in one twice
   pub once : (q i : ℕ) → times i (f q) ≤ 1

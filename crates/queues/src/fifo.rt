@@ -1,14 +1,11 @@
 // The queues as links between neighbours, in one array of members and one of ends.
 // A queue is a ring through 64, which stands for nobody: it comes after the last member and before the first.
-ghost use mathlib.Core.Path.{_≡_};
-ghost use mathlib.Core.Bool.{false};
-ghost use mathlib.Core.List.{List, [], _∷_, _++_};
-ghost use Prim.Native.Nat.{ℕ};
-ghost use Rattle·std.specs.Options.{isSome};
-ghost use Rattle·queues·specs.Members.{Free, rest, put};
-ghost use Rattle·queues·specs.Rings.{Holds};
-ghost use Rattle·queues·specs.Writes.{setAfter, setBefore, joined, appended, unlinked};
-ghost use Rattle·queues·specs.Outcomes.{First, StandsIn, Pushed, Removed, Moved};
+ghost use Rattle.std.specs.Prelude.{◌≡◌, ℕ, false, List, [], ◌∷◌, ◌++◌, is_some};
+ghost use Rattle.queues.specs.Members.{Free, rest, put};
+ghost use Rattle.queues.specs.Rings.{Holds};
+ghost use Rattle.queues.specs.Writes.{set_after, set_before, joined, appended, unlinked};
+ghost use Rattle.queues.specs.Outcomes.{First, StandsIn, Pushed, Removed, Moved};
+
 use crate::queue_id::QueueId;
 use quantities::ids::TaskId;
 
@@ -39,7 +36,7 @@ pub struct Queues {
 impl Queues {
     // All are empty.
     pub fn new() -> Self
-        ensures { λ r. ⌜ Holds r (λ _. []) ⌝ }
+        ensures { Holds result (λ _. []) }
     {
         Queues {
             links: [Link {
@@ -56,15 +53,15 @@ impl Queues {
 
     // The first of the queue.
     pub fn front(&self, q: QueueId) -> Option<TaskId>
-        ensures { λ r. ⌜ ((f : ℕ → List ℕ) → Holds (now (self .entry)) f → First (f (q .index)) r) ⌝ }
+        ensures { (f : ℕ → List ℕ) → Holds self.now f → First (f q.index) result }
     {
         TaskId::new(self.ends[q.index()].head as u32)
     }
 
     // Who stands right behind i.
     pub fn next(&self, i: TaskId) -> Option<TaskId>
-        ensures behind { λ r. ⌜ ((f : ℕ → List ℕ) → Holds (now (self .entry)) f → (q : ℕ) (xs ys : List ℕ) → f q ≡ xs ++ (i .index ∷ ys) → First ys r) ⌝ }
-        ensures free { λ r. ⌜ ((f : ℕ → List ℕ) → Holds (now (self .entry)) f → Free f (i .index) → isSome r ≡ false) ⌝ }
+        ensures behind { (f : ℕ → List ℕ) → Holds self.now f → (q : ℕ) (xs ys : List ℕ) → f q ≡ xs ++ (i.index ∷ ys) → First ys result }
+        ensures free { (f : ℕ → List ℕ) → Holds self.now f → Free f i.index → is_some result ≡ false }
     {
         let link = self.links[i.index()];
         if link.at >= NONE {
@@ -75,15 +72,15 @@ impl Queues {
 
     // The queue in which i stands.
     pub fn queue_of(&self, i: TaskId) -> Option<QueueId>
-        ensures { λ r. ⌜ ((f : ℕ → List ℕ) → Holds (now (self .entry)) f → StandsIn f (i .index) r) ⌝ }
+        ensures { (f : ℕ → List ℕ) → Holds self.now f → StandsIn f i.index result }
     {
         QueueId::new(self.links[i.index()].at as u32)
     }
 
     // Puts i last, unless it stands in a queue already.
     pub fn push_back(&mut self, q: QueueId, i: TaskId) -> bool
-        ensures after { λ r. ⌜ ((f : ℕ → List ℕ) → Holds (now (self .entry)) f → Pushed (now (self .exit)) f (q .index) (i .index) r) ⌝ }
-        ensures same { λ r. ⌜ (r ≡ false → now (self .exit) ≡ now (self .entry)) ⌝ }
+        ensures after { (f : ℕ → List ℕ) → Holds self.old f → Pushed self.new f q.index i.index result }
+        ensures same { result ≡ false → self.new ≡ self.old }
     {
         if self.links[i.index()].at < NONE {
             return false;
@@ -94,9 +91,9 @@ impl Queues {
 
     // Takes the first out.
     pub fn pop_front(&mut self, q: QueueId) -> Option<TaskId>
-        ensures value { λ r. ⌜ ((f : ℕ → List ℕ) → Holds (now (self .entry)) f → First (f (q .index)) r) ⌝ }
-        ensures after { λ r. ⌜ ((f : ℕ → List ℕ) → Holds (now (self .entry)) f → Holds (now (self .exit)) (put (q .index) (rest (f (q .index))) f)) ⌝ }
-        ensures same { λ r. ⌜ (isSome r ≡ false → now (self .exit) ≡ now (self .entry)) ⌝ }
+        ensures value { (f : ℕ → List ℕ) → Holds self.old f → First (f q.index) result }
+        ensures after { (f : ℕ → List ℕ) → Holds self.old f → Holds self.new (put q.index (rest (f q.index)) f) }
+        ensures same { is_some result ≡ false → self.new ≡ self.old }
     {
         let Some(i) = self.front(q) else {
             return None;
@@ -107,8 +104,8 @@ impl Queues {
 
     // Takes i out of its queue, if it stands in one.
     pub fn remove(&mut self, i: TaskId) -> bool
-        ensures after { λ r. ⌜ ((f : ℕ → List ℕ) → Holds (now (self .entry)) f → Removed (now (self .exit)) f (i .index) r) ⌝ }
-        ensures same { λ r. ⌜ (r ≡ false → now (self .exit) ≡ now (self .entry)) ⌝ }
+        ensures after { (f : ℕ → List ℕ) → Holds self.old f → Removed self.new f i.index result }
+        ensures same { result ≡ false → self.new ≡ self.old }
     {
         let Some(q) = self.queue_of(i) else {
             return false;
@@ -119,8 +116,8 @@ impl Queues {
 
     // Puts i last in its own queue, if it stands in one.
     pub fn move_to_back(&mut self, i: TaskId) -> bool
-        ensures after { λ r. ⌜ ((f : ℕ → List ℕ) → Holds (now (self .entry)) f → Moved (now (self .exit)) f (i .index) r) ⌝ }
-        ensures same { λ r. ⌜ (r ≡ false → now (self .exit) ≡ now (self .entry)) ⌝ }
+        ensures after { (f : ℕ → List ℕ) → Holds self.old f → Moved self.new f i.index result }
+        ensures same { result ≡ false → self.new ≡ self.old }
     {
         let Some(q) = self.queue_of(i) else {
             return false;
@@ -132,7 +129,7 @@ impl Queues {
 
     // i, who stands in no queue, becomes the last of q.
     fn append(&mut self, q: QueueId, i: TaskId)
-        ensures { λ _. ⌜ now (self .exit) ≡ appended (q .index) (i .index) (now (self .entry)) ⌝ }
+        ensures { self.new ≡ appended q.index i.index self.old }
     {
         let last = self.ends[q.index()].tail;
         let k = i.index();
@@ -143,7 +140,7 @@ impl Queues {
 
     // Takes i out of q, in which it stands.
     fn unlink(&mut self, q: QueueId, i: TaskId)
-        ensures { λ _. ⌜ now (self .exit) ≡ unlinked (q .index) (i .index) (now (self .entry)) ⌝ }
+        ensures { self.new ≡ unlinked q.index i.index self.old }
     {
         let k = i.index();
         let link = self.links[k];
@@ -153,14 +150,14 @@ impl Queues {
 
     // Makes b follow a in the ring of q.
     fn join(&mut self, q: QueueId, a: u8, b: u8)
-        ensures { λ _. ⌜ now (self .exit) ≡ joined (q .index) a b (now (self .entry)) ⌝ }
+        ensures { self.new ≡ joined q.index a b self.old }
     {
         self.set_next(q, a, b);
         self.set_prev(q, b, a);
     }
 
     fn set_next(&mut self, q: QueueId, a: u8, b: u8)
-        ensures { λ _. ⌜ now (self .exit) ≡ setAfter (q .index) a b (now (self .entry)) ⌝ }
+        ensures { self.new ≡ set_after q.index a b self.old }
     {
         if a < NONE {
             self.links[a as usize].next = b;
@@ -170,7 +167,7 @@ impl Queues {
     }
 
     fn set_prev(&mut self, q: QueueId, b: u8, a: u8)
-        ensures { λ _. ⌜ now (self .exit) ≡ setBefore (q .index) b a (now (self .entry)) ⌝ }
+        ensures { self.new ≡ set_before q.index b a self.old }
     {
         if b < NONE {
             self.links[b as usize].prev = a;

@@ -1,7 +1,6 @@
 // The queues: 64 of them, numbered from 0, one for each lock or one for each rank.
-ghost use mathlib.Core.Path.{_≡_};
-ghost use Prim.Native.Nat.{_<_, _≤_};
-ghost use Rattle·std.specs.Options.{Cases as BySome};
+ghost use Rattle.std.specs.Prelude.{◌≡◌, ◌<◌, ◌≤◌, MatchOption};
+
 use quantities::ids::LockId;
 use quantities::promises::Rank;
 
@@ -14,7 +13,7 @@ pub struct QueueId {
 impl QueueId {
     // The queue of this number, if there is one.
     pub fn new(number: u32) -> Option<Self>
-        ensures { λ r. ⌜ BySome r (64 ≤ number) (λ q. (q .index ≡ number) × (number < 64)) ⌝ }
+        ensures { MatchOption result (64 ≤ number) (λ q. (q.index ≡ number) × (number < 64)) }
     {
         if number >= 64 {
             return None;
@@ -26,7 +25,7 @@ impl QueueId {
 
     // Those who wait for the lock.
     pub fn of_lock(lock: LockId) -> Self
-        ensures { λ r. ⌜ r .index ≡ lock .index ⌝ }
+        ensures { result.index ≡ lock.index }
     {
         QueueId {
             index: lock.index() as u8,
@@ -35,7 +34,7 @@ impl QueueId {
 
     // Those who take turns in the rank.
     pub fn of_rank(rank: Rank) -> Self
-        ensures { λ r. ⌜ r .index ≡ rank .value ⌝ }
+        ensures { result.index ≡ rank.value }
     {
         QueueId {
             index: rank.index() as u8,
@@ -43,8 +42,8 @@ impl QueueId {
     }
 
     pub fn index(self) -> usize
-        ensures value { λ r. ⌜ r ≡ self .index ⌝ }
-        ensures bound { λ r. ⌜ r < 64 ⌝ }
+        ensures value { result ≡ self.index }
+        ensures bound { result < 64 }
     {
         self.index as usize
     }

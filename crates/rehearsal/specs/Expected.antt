@@ -1,90 +1,82 @@
 -- What is expected of a text, line by line.
 -- Assumes nothing.
-use mathlib.Core.Path.{_≡_}
-use mathlib.Core.Bool.{Bool, true, false, cond, _&&_, _||_}
-use mathlib.Core.List.{List, [], _∷_}
-use Prim.Native.Nat.{ℕ, zero, suc, min, _+_, _-_}
-use lib.Chars.{codes}
-use lib.Dec.{leb}
-use Rattle·std.specs.Options.{isSome}
-use Rattle·std.specs.shelf.Text.{sameBytes}
-use Rattle·std.specs.declared.option.Option.{Option}
-use Rattle·std.specs.declared.option.Option.the-variants.{Some, None}
-use Rattle·script.specs.Grammar.{numberOf}
-use Rattle·rehearsal·specs.Cuts.{cut}
+use Rattle.std.specs.Prelude.{◌≡◌, ℕ, zero, suc, ◌+◌, ◌-◌, min, Bool, true, false, cond, ◌&&◌, ◌||◌, List, [], ◌∷◌, is_some, Some, None, codes, Option, nat_le}
+use Rattle.std.specs.Str.{bytes_eq}
+use Rattle.script.specs.Grammar.{number_of}
+use Rattle.rehearsal.specs.Cuts.{cut}
 
 -- n is at most d off m
-abbrev pub isNear : Option ℕ → Option ℕ → Option ℕ → Bool
-isNear None m d = false
-isNear (Some n) None d = false
-isNear (Some n) (Some m) None = false
-isNear (Some n) (Some m) (Some d) = leb (n - m + (m - n)) d
+abbrev pub is_near : Option ℕ → Option ℕ → Option ℕ → Bool
+is_near None m d = false
+is_near (Some n) None d = false
+is_near (Some n) (Some m) None = false
+is_near (Some n) (Some m) (Some d) = nat_le (n - m + (m - n)) d
 
 -- what was got, against the parts of a word at `~`: a number and how far off it one may be, or the word itself
-abbrev pub nearTo : List (List ℕ) → List ℕ → List ℕ → Bool
-nearTo [] want got = sameBytes want got
-nearTo (m ∷ []) want got = sameBytes want got
-nearTo (m ∷ d ∷ xs) want got = isNear (numberOf got) (numberOf m) (numberOf d)
+abbrev pub near_to : List (List ℕ) → List ℕ → List ℕ → Bool
+near_to [] want got = bytes_eq want got
+near_to (m ∷ []) want got = bytes_eq want got
+near_to (m ∷ d ∷ xs) want got = is_near (number_of got) (number_of m) (number_of d)
 
-abbrev pub wordMeets : List ℕ → List ℕ → Bool
-wordMeets want got = nearTo (cut 126 want) want got
+abbrev pub word_meets : List ℕ → List ℕ → Bool
+word_meets want got = near_to (cut 126 want) want got
 
-unfoldable pub wordsMeet : List (List ℕ) → List (List ℕ) → Bool
-wordsMeet [] [] = true
-wordsMeet [] (g ∷ gs) = false
-wordsMeet (w ∷ ws) [] = false
-wordsMeet (w ∷ ws) (g ∷ gs) = wordMeets w g && wordsMeet ws gs
+unfoldable pub words_meet : List (List ℕ) → List (List ℕ) → Bool
+words_meet [] [] = true
+words_meet [] (g ∷ gs) = false
+words_meet (w ∷ ws) [] = false
+words_meet (w ∷ ws) (g ∷ gs) = word_meets w g && words_meet ws gs
 
 -- `ticks` and a number
-abbrev pub ticksOf : List (List ℕ) → Option ℕ
-ticksOf [] = None
-ticksOf (w ∷ []) = None
-ticksOf (w ∷ n ∷ xs) = cond (sameBytes w (codes "ticks")) (numberOf n) None
+abbrev pub ticks_of : List (List ℕ) → Option ℕ
+ticks_of [] = None
+ticks_of (w ∷ []) = None
+ticks_of (w ∷ n ∷ xs) = cond (bytes_eq w (codes "ticks")) (number_of n) None
 
 -- `-`, or a line that begins with a number
-abbrev pub tickWord : List (List ℕ) → Bool
-tickWord [] = false
-tickWord (w ∷ ws) = sameBytes w (codes "-") || isSome (numberOf w)
+abbrev pub tick_word : List (List ℕ) → Bool
+tick_word [] = false
+tick_word (w ∷ ws) = bytes_eq w (codes "-") || is_some (number_of w)
 
-abbrev pub isTick : List ℕ → Bool
-isTick line = tickWord (cut 32 line)
+abbrev pub is_tick : List ℕ → Bool
+is_tick line = tick_word (cut 32 line)
 
 -- what follows so many lines of ticks
-unfoldable pub afterTicks : ℕ → List (List ℕ) → Option (List (List ℕ))
-afterTicks zero ls = Some ls
-afterTicks (suc n) [] = None
-afterTicks (suc n) (l ∷ ls) = cond (isTick l) (afterTicks n ls) None
+unfoldable pub after_ticks : ℕ → List (List ℕ) → Option (List (List ℕ))
+after_ticks zero ls = Some ls
+after_ticks (suc n) [] = None
+after_ticks (suc n) (l ∷ ls) = cond (is_tick l) (after_ticks n ls) None
 
 -- what follows one line that meets it, word by word
-abbrev pub afterLine : List ℕ → List (List ℕ) → Option (List (List ℕ))
-afterLine want [] = None
-afterLine want (l ∷ ls) = cond (wordsMeet (cut 32 want) (cut 32 l)) (Some ls) None
+abbrev pub after_line : List ℕ → List (List ℕ) → Option (List (List ℕ))
+after_line want [] = None
+after_line want (l ∷ ls) = cond (words_meet (cut 32 want) (cut 32 l)) (Some ls) None
 
-abbrev pub afterEither : Option ℕ → List ℕ → List (List ℕ) → Option (List (List ℕ))
-afterEither None want ls = afterLine want ls
-afterEither (Some n) want ls = afterTicks n ls
+abbrev pub after_either : Option ℕ → List ℕ → List (List ℕ) → Option (List (List ℕ))
+after_either None want ls = after_line want ls
+after_either (Some n) want ls = after_ticks n ls
 
 -- what follows the lines that this one stands for, if they are the first of these
 unfoldable pub following : List ℕ → List (List ℕ) → Option (List (List ℕ))
-following want ls = afterEither (ticksOf (cut 32 want)) want ls
+following want ls = after_either (ticks_of (cut 32 want)) want ls
 
 -- the number of the next line, which stops at the most that 64 bits hold
 abbrev pub more : ℕ → ℕ
 more n = min (n + 1) 18446744073709551615
 
 -- this number where lines are left
-abbrev pub onlyIfLeft : ℕ → List (List ℕ) → Option ℕ
-onlyIfLeft n [] = None
-onlyIfLeft n (l ∷ ls) = Some n
+abbrev pub only_if_left : ℕ → List (List ℕ) → Option ℕ
+only_if_left n [] = None
+only_if_left n (l ∷ ls) = Some n
 
-abbrev pub orFurther : ℕ → (List (List ℕ) → Option ℕ) → Option (List (List ℕ)) → Option ℕ
-orFurther n further None = Some n
-orFurther n further (Some ls) = further ls
+abbrev pub or_further : ℕ → (List (List ℕ) → Option ℕ) → Option (List (List ℕ)) → Option ℕ
+or_further n further None = Some n
+or_further n further (Some ls) = further ls
 
 -- The number of the first of these lines, counted from n on, that doesn't stand for the lines that come next; one past the last where lines are left; none if those are what these stand for.
-unfoldable pub firstApart : ℕ → List (List ℕ) → List (List ℕ) → Option ℕ
-firstApart n [] ls = onlyIfLeft n ls
-firstApart n (w ∷ ws) ls = orFurther n (firstApart (more n) ws) (following w ls)
+unfoldable pub first_apart : ℕ → List (List ℕ) → List (List ℕ) → Option ℕ
+first_apart n [] ls = only_if_left n ls
+first_apart n (w ∷ ws) ls = or_further n (first_apart (more n) ws) (following w ls)
 
 -- what was found of the lines that one stands for, and what is left
 abbrev pub Found : Bool → Option (List (List ℕ)) → List (List ℕ) → Type 0

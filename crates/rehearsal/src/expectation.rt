@@ -1,17 +1,18 @@
 // What a script is to be answered, in text: a line stands for itself, but for two forms. `ticks 400` stands for so many
 // lines that each tell of a tick, whichever; a word `100~3` stands for a number that is at most 3 off 100.
-ghost use mathlib.Core.Path.{_≡_};
-ghost use Rattle·std.specs.shelf.Text.{sameBytes};
-ghost use Rattle·script.specs.Grammar.{numberOf};
-ghost use Rattle·rehearsal·specs.Cuts.{cut, left};
-ghost use Rattle·rehearsal·specs.Expected.{Found, afterTicks, firstApart, following, isNear, isTick, ticksOf, wordMeets, wordsMeet};
+ghost use Rattle.std.specs.Prelude.{◌≡◌};
+ghost use Rattle.std.specs.Str.{bytes_eq};
+ghost use Rattle.script.specs.Grammar.{number_of};
+ghost use Rattle.rehearsal.specs.Cuts.{cut, left};
+ghost use Rattle.rehearsal.specs.Expected.{Found, after_ticks, first_apart, following, is_near, is_tick, ticks_of, word_meets, words_meet};
+
 use crate::parts::Parts;
 use script::word::Word;
 
 // The number of the first line of what is expected that the transcript doesn't meet, if any; one past the last where
 // the transcript goes on.
 pub fn first_difference(expected: &[u8], transcript: &[u8]) -> Option<usize>
-    ensures { λ r. ⌜ r ≡ firstApart 1 (cut 10 (now (expected .entry))) (cut 10 (now (transcript .entry))) ⌝ }
+    ensures { result ≡ first_apart 1 (cut 10 expected.now) (cut 10 transcript.now) }
 {
     let mut wanted = Parts::new(expected, b'\n');
     let mut lines = Parts::new(transcript, b'\n');
@@ -30,7 +31,7 @@ pub fn first_difference(expected: &[u8], transcript: &[u8]) -> Option<usize>
 
 // Whether the next lines are what this one stands for.
 fn met(want: &[u8], lines: &mut Parts<'_>) -> bool
-    ensures { λ r. ⌜ Found r (following (now (want .entry)) (left (now (lines .entry)))) (left (now (lines .exit))) ⌝ }
+    ensures { Found result (following want.now (left lines.old)) (left lines.new) }
 {
     match tick_lines(want) {
         Some(many) => are_ticks(many, lines),
@@ -42,7 +43,7 @@ fn met(want: &[u8], lines: &mut Parts<'_>) -> bool
 }
 
 fn are_ticks(many: u32, lines: &mut Parts<'_>) -> bool
-    ensures { λ r. ⌜ Found r (afterTicks many (left (now (lines .entry)))) (left (now (lines .exit))) ⌝ }
+    ensures { Found result (after_ticks many (left lines.old)) (left lines.new) }
 {
     for k in 0..many {
         match lines.next() {
@@ -59,7 +60,7 @@ fn are_ticks(many: u32, lines: &mut Parts<'_>) -> bool
 
 // How many lines of ticks it stands for, unless it stands for itself.
 fn tick_lines(want: &[u8]) -> Option<u32>
-    ensures { λ r. ⌜ r ≡ ticksOf (cut 32 (now (want .entry))) ⌝ }
+    ensures { result ≡ ticks_of (cut 32 want.now) }
 {
     let mut words = Parts::new(want, b' ');
     match words.next() {
@@ -79,7 +80,7 @@ fn tick_lines(want: &[u8]) -> Option<u32>
 
 // `-`, or a line that begins with a number.
 fn is_tick(line: &[u8]) -> bool
-    ensures { λ r. ⌜ r ≡ isTick (now (line .entry)) ⌝ }
+    ensures { result ≡ is_tick line.now }
 {
     let mut words = Parts::new(line, b' ');
     match words.next() {
@@ -90,7 +91,7 @@ fn is_tick(line: &[u8]) -> bool
 
 // Word by word, within the tolerance where there is one.
 fn meets(want: &[u8], line: &[u8]) -> bool
-    ensures { λ r. ⌜ r ≡ wordsMeet (cut 32 (now (want .entry))) (cut 32 (now (line .entry))) ⌝ }
+    ensures { result ≡ words_meet (cut 32 want.now) (cut 32 line.now) }
 {
     let mut wanted = Parts::new(want, b' ');
     let mut words = Parts::new(line, b' ');
@@ -108,7 +109,7 @@ fn meets(want: &[u8], line: &[u8]) -> bool
 }
 
 fn word_meets(want: &[u8], got: &[u8]) -> bool
-    ensures { λ r. ⌜ r ≡ wordMeets (now (want .entry)) (now (got .entry)) ⌝ }
+    ensures { result ≡ word_meets want.now got.now }
 {
     let mut numbers = Parts::new(want, b'~');
     match numbers.next() {
@@ -122,7 +123,7 @@ fn word_meets(want: &[u8], got: &[u8]) -> bool
 
 // Whether the number is at most so far off the middle; what isn't a number is near to none.
 fn is_near(n: Option<u32>, middle: Option<u32>, off: Option<u32>) -> bool
-    ensures { λ r. ⌜ r ≡ isNear n middle off ⌝ }
+    ensures { result ≡ is_near n middle off }
 {
     match n {
         Some(n) => match middle {
@@ -138,7 +139,7 @@ fn is_near(n: Option<u32>, middle: Option<u32>, off: Option<u32>) -> bool
 
 // The number that it is, if it is one below 2^32.
 fn number(text: &[u8]) -> Option<u32>
-    ensures { λ r. ⌜ r ≡ numberOf (now (text .entry)) ⌝ }
+    ensures { result ≡ number_of text.now }
 {
     let mut word = Word::new();
     for k in 0..text.len() {
@@ -148,7 +149,7 @@ fn number(text: &[u8]) -> Option<u32>
 }
 
 fn same(one: &[u8], other: &[u8]) -> bool
-    ensures { λ r. ⌜ r ≡ sameBytes (now (one .entry)) (now (other .entry)) ⌝ }
+    ensures { result ≡ bytes_eq one.now other.now }
 {
     one == other
 }

@@ -1,9 +1,6 @@
 // A text in parts: its lines, the words of a line, the numbers of a word.
-ghost use mathlib.Core.Path.{_≡_};
-ghost use mathlib.Core.List.{_∷_};
-ghost use Prim.Native.Nat.{ℕ, _<_, _≤_};
-ghost use lib.ListN.{length, getD};
-ghost use Rattle·rehearsal·specs.Cuts.{cut, leftOf, left, Gives};
+ghost use Rattle.std.specs.Prelude.{◌≡◌, ℕ, ◌<◌, ◌≤◌, ◌∷◌, length, ◌≢◌, slice_index};
+ghost use Rattle.rehearsal.specs.Cuts.{cut, left_of, left, Gives};
 
 // Gives out one part after another: what lies between the bytes that part it.
 #[derive(Drop)]
@@ -15,7 +12,7 @@ pub struct Parts<'a> {
 
 impl<'a> Parts<'a> {
     pub fn new(text: &'a [u8], by: u8) -> Parts<'a>
-        ensures { λ r. ⌜ left r ≡ cut by (now (text .entry)) ⌝ }
+        ensures { left result ≡ cut by text.now }
     {
         Parts {
             rest: Some(text),
@@ -24,7 +21,7 @@ impl<'a> Parts<'a> {
     }
 
     pub fn next(&mut self) -> Option<&'a [u8]>
-        ensures { λ r. ⌜ Gives (left (now (self .entry))) r (left (now (self .exit))) ⌝ }
+        ensures { Gives (left self.old) result (left self.new) }
     {
         let text = self.rest?;
         let (part, rest) = split(text, self.by);
@@ -35,7 +32,7 @@ impl<'a> Parts<'a> {
 
 // The first part, and what comes after it, if there is a further one.
 fn split(text: &[u8], by: u8) -> (&[u8], Option<&[u8]>)
-    ensures { λ r. ⌜ cut by (now (text .entry)) ≡ now (r .0) ∷ leftOf by (r .1) ⌝ }
+    ensures { cut by text.now ≡ result.0.now ∷ left_of by result.1 }
 {
     let end = first(text, by);
     if end >= text.len() {
@@ -46,9 +43,9 @@ fn split(text: &[u8], by: u8) -> (&[u8], Option<&[u8]>)
 
 // Where this byte first stands, or the text's length.
 fn first(text: &[u8], byte: u8) -> usize
-    ensures within { λ r. ⌜ r ≤ length (now (text .entry)) ⌝ }
-    ensures before { λ r. ⌜ ((k : ℕ) → k < r → getD (now (text .entry)) k 0 ≡ byte → ⊥) ⌝ }
-    ensures here { λ r. ⌜ (r < length (now (text .entry)) → getD (now (text .entry)) r 0 ≡ byte) ⌝ }
+    ensures within { result ≤ length text.now }
+    ensures before { (k : ℕ) → k < result → slice_index text.now k ≢ byte }
+    ensures here { result < length text.now → slice_index text.now result ≡ byte }
 {
     for k in 0..text.len() {
         if text[k] == byte {

@@ -1,11 +1,7 @@
 // Text in memory: a script, what is written for it, what is expected.
-ghost use mathlib.Core.Path.{_≡_};
-ghost use mathlib.Core.Bool.{true, false};
-ghost use mathlib.Core.List.{_++_};
-ghost use Prim.Native.Nat.{_+_, _≤_};
-ghost use lib.ListN.{length, take};
-use script::sink::Sink;
-use script::sink::Stopped;
+ghost use Rattle.std.specs.Prelude.{◌≡◌, ◌+◌, ◌≤◌, true, false, ◌++◌, length, take};
+
+use script::sink::{Sink, Stopped};
 
 #[derive(Drop)]
 pub struct Room {
@@ -16,7 +12,7 @@ pub struct Room {
 
 impl Room {
     pub fn new() -> Room
-        ensures { λ r. ⌜ r .len ≡ 0 ⌝ }
+        ensures { result.len ≡ 0 }
     {
         Room {
             bytes: [0; 65536],
@@ -26,9 +22,9 @@ impl Room {
 
     // These bytes too, or none of them and false if there is no room.
     pub fn push(&mut self, more: &[u8]) -> bool
-        ensures taken { λ r. ⌜ (r ≡ true → take (now (self .exit) .len) (now (self .exit) .bytes) ≡ take (now (self .entry) .len) (now (self .entry) .bytes) ++ now (more .entry)) ⌝ }
-        ensures refused { λ r. ⌜ (r ≡ false → now (self .exit) ≡ now (self .entry)) ⌝ }
-        ensures fits { λ r. ⌜ (now (self .entry) .len + length (now (more .entry)) ≤ 65536 → r ≡ true) ⌝ }
+        ensures taken { result ≡ true → take self.new.len self.new.bytes ≡ take self.old.len self.old.bytes ++ more.now }
+        ensures refused { result ≡ false → self.new ≡ self.old }
+        ensures fits { self.old.len + length more.now ≤ 65536 → result ≡ true }
     {
         if more.len() > 65536 - self.len {
             return false;
@@ -41,15 +37,15 @@ impl Room {
     }
 
     pub fn bytes(&self) -> &[u8]
-        ensures { λ r. ⌜ now r ≡ take (now (self .entry) .len) (now (self .entry) .bytes) ⌝ }
+        ensures { result.now ≡ take self.now.len self.now.bytes }
     {
         let bytes = &self.bytes;
         &bytes[0..self.len]
     }
 }
 
-pub impl Sink for Room as RoomSink {
-    ghost took = { λ r xs. take (r .len) (r .bytes) ≡ xs };
+impl Sink for Room {
+    ghost took = { λ r xs. take r.len r.bytes ≡ xs };
 
     fn take(&mut self, lines: &[u8]) -> Result<(), Stopped> {
         if self.push(lines) {

@@ -1,20 +1,15 @@
 -- Why the earliest end first is enough: claims that are covered stay so when claims are changed or opened and when a tick
 -- passes that is given to one of those which end first; and a claim in its last tick is owed nothing any more.
-use mathlib.Core.Path.{_≡_, ap}
-use mathlib.Core.Logic.{_⊎_, inl, inr}
-use Prim.Native.Nat.{ℕ, _+_, _-_, _*_, _≤_, _<_, min}
-use native.Mathlib.Omega.{arith}
-use native.Mathlib.Nat.{mul-le-mul-left, mul-le-mul-right}
-use lib.Dec.{leb}
-use Rattle·std.proofs.shelf.Tests.{cases-lt, cases-eq, cond-true, cond-false, le-leb, lt-leb}
-use Rattle·sched·specs.House.{sum}
-use Rattle·sched·specs.Demand.{Covered, owedIn, comesIn}
-use Rattle·sched·proofs.Sums.{sum-le, sum-add, sum-times, sum-zero, sum-term, sum-lt}
+use Rattle.std.proofs.Common.{◌≡◌, ℕ, ◌+◌, ◌-◌, ◌*◌, ◌<◌, ◌≤◌, min, leb, ◌⊎◌, ap, inl, inr, mul-le-mul_right, mul-le-mul_left, arith}
+use Rattle.std.proofs.lemmas.Bool.{cases_lt, cases_eq, cond-true, cond-false, le-leb, lt-leb}
+use Rattle.sched.specs.House.{sum}
+use Rattle.sched.specs.Demand.{Covered, owed_in, comes_in}
+use Rattle.sched.proofs.Sums.{sum-le, sum-add, sum-times, sum-zero, sum-term, sum_lt}
 
 -- i has ended within d, or not
-owed-cases : (ends owed : ℕ → ℕ) (d i : ℕ) → ((ends i ≤ d) × (owedIn ends owed d i ≡ owed i)) ⊎ ((d < ends i) × (owedIn ends owed d i ≡ 0))
+owed-cases : (ends owed : ℕ → ℕ) (d i : ℕ) → ((ends i ≤ d) × (owed_in ends owed d i ≡ owed i)) ⊎ ((d < ends i) × (owed_in ends owed d i ≡ 0))
 owed-cases ends owed d i =
-    elim (cases-lt d (ends i)) [
+    elim (cases_lt d (ends i)) [
       | inl l ↦ inr (l, cond-false (leb (ends i) d) (owed i) 0 (lt-leb (ends i) d l))
       | inr l ↦ inl (l, cond-true (leb (ends i) d) (owed i) 0 (le-leb (ends i) d l))
     ]
@@ -24,7 +19,7 @@ none-covered n share ends owed s o =
     record {
       shares = let e = sum-zero n share s in omega arith;
       covered = λ d.
-          let e = sum-zero n (owedIn ends owed d) (λ i l. let here = o i l in let w = owed-cases ends owed d i in omega arith) in
+          let e = sum-zero n (owed_in ends owed d) (λ i l. let here = o i l in let w = owed-cases ends owed d i in omega arith) in
           omega arith;
     }
 
@@ -35,14 +30,14 @@ Changes s e o s' e' o' = ((e' ≡ e) × (o' ≤ o) × (0 < e → s ≤ s')) ⊎ 
 
 module _ (n : ℕ) (share ends owed share' ends' owed' : ℕ → ℕ) where
   change-one : (d i : ℕ) → Changes (share i) (ends i) (owed i) (share' i) (ends' i) (owed' i) →
-      10080 * owedIn ends' owed' d i + comesIn share ends d i ≤ 10080 * owedIn ends owed d i + comesIn share' ends' d i
+      10080 * owed_in ends' owed' d i + comes_in share ends d i ≤ 10080 * owed_in ends owed d i + comes_in share' ends' d i
   change-one d i (inl (e, o, s)) =
       let before = owed-cases ends owed d i in
       let after = owed-cases ends' owed' d i in
       let same : share' i * min d (ends' i) ≡ share' i * min d (ends i) = ap (λ x. share' i * min d x) e in
-      elim (cases-eq (ends i) 0) [
+      elim (cases_eq (ends i) 0) [
         | inl z ↦ let none : share i * min d (ends i) ≡ share i * 0 = ap (λ x. share i * x) (omega arith) in omega arith
-        | inr some ↦ let more = mul-le-mul-right (min d (ends i)) (s (omega arith)) in omega arith
+        | inr some ↦ let more = mul-le-mul_right (min d (ends i)) (s (omega arith)) in omega arith
       ]
   change-one d i (inr (e, o)) =
       let none : share i * min d (ends i) ≡ share i * 0 = ap (λ x. share i * x) (omega arith) in
@@ -56,12 +51,12 @@ module _ (n : ℕ) (share ends owed share' ends' owed' : ℕ → ℕ) where
       record {
         shares = fit;
         covered = λ d.
-            let all = sum-le n (λ i. 10080 * owedIn ends' owed' d i + comesIn share ends d i) (λ i. 10080 * owedIn ends owed d i + comesIn share' ends' d i) (λ i l. change-one d i (ch i l)) in
-            let left = sum-add n (λ i. 10080 * owedIn ends' owed' d i) (comesIn share ends d) in
-            let right = sum-add n (λ i. 10080 * owedIn ends owed d i) (comesIn share' ends' d) in
-            let before = sum-times n 10080 (owedIn ends owed d) in
-            let after = sum-times n 10080 (owedIn ends' owed' d) in
-            let was = c .covered d in
+            let all = sum-le n (λ i. 10080 * owed_in ends' owed' d i + comes_in share ends d i) (λ i. 10080 * owed_in ends owed d i + comes_in share' ends' d i) (λ i l. change-one d i (ch i l)) in
+            let left = sum-add n (λ i. 10080 * owed_in ends' owed' d i) (comes_in share ends d) in
+            let right = sum-add n (λ i. 10080 * owed_in ends owed d i) (comes_in share' ends' d) in
+            let before = sum-times n 10080 (owed_in ends owed d) in
+            let after = sum-times n 10080 (owed_in ends' owed' d) in
+            let was = c.covered d in
             omega arith;
       }
 
@@ -78,68 +73,68 @@ module _ (n : ℕ) (share ends owed share' ends' owed' : ℕ → ℕ) where
   FirstServed = ((i : ℕ) → i < n → owed i ≡ 0) ⊎ ((k : ℕ) × (k < n) × (owed' k < owed k) × ((i : ℕ) → i < n → 0 < owed i → ends k ≤ ends i))
 
   module _ (p : Passes) where
-    owed-one : (d i : ℕ) → i < n → owedIn ends' owed' d i ≤ owedIn ends owed (d + 1) i
+    owed-one : (d i : ℕ) → i < n → owed_in ends' owed' d i ≤ owed_in ends owed (d + 1) i
     owed-one d i l =
         let before = owed-cases ends owed (d + 1) i in
         let after = owed-cases ends' owed' d i in
-        let e = p .sooner i l in
-        let o = p .owed-less i l in
-        let z = p .over i l in
+        let e = p.sooner i l in
+        let o = p.owed-less i l in
+        let z = p.over i l in
         omega arith
 
-    comes-one : (d i : ℕ) → i < n → comesIn share ends (d + 1) i ≤ comesIn share' ends' d i + share i
+    comes-one : (d i : ℕ) → i < n → comes_in share ends (d + 1) i ≤ comes_in share' ends' d i + share i
     comes-one d i l =
-        let e = p .sooner i l in
-        elim (cases-eq (ends' i) 0) [
-          | inl z ↦ let few = mul-le-mul-left {m = min (d + 1) (ends i)} {n = 1} (share i) (omega arith) in omega arith
+        let e = p.sooner i l in
+        elim (cases_eq (ends' i) 0) [
+          | inl z ↦ let few = mul-le-mul_left {m = min (d + 1) (ends i)} {n = 1} (share i) (omega arith) in omega arith
           | inr some ↦
               let more : share i * min (d + 1) (ends i) ≡ share i * (min d (ends' i) + 1) = ap (λ x. share i * x) (omega arith) in
-              let same : share' i * min d (ends' i) ≡ share i * min d (ends' i) = ap (λ x. x * min d (ends' i)) (p .share-same i l (omega arith)) in
+              let same : share' i * min d (ends' i) ≡ share i * min d (ends' i) = ap (λ x. x * min d (ends' i)) (p.share-same i l (omega arith)) in
               omega arith
         ]
 
-    comes-less : (d : ℕ) → Covered n share ends owed → sum n (comesIn share ends (d + 1)) ≤ sum n (comesIn share' ends' d) + 7560
+    comes-less : (d : ℕ) → Covered n share ends owed → sum n (comes_in share ends (d + 1)) ≤ sum n (comes_in share' ends' d) + 7560
     comes-less d c =
-        let all = sum-le n (comesIn share ends (d + 1)) (λ i. comesIn share' ends' d i + share i) (comes-one d) in
-        let parts = sum-add n (comesIn share' ends' d) share in
-        let fit = c .shares in
+        let all = sum-le n (comes_in share ends (d + 1)) (λ i. comes_in share' ends' d i + share i) (comes-one d) in
+        let parts = sum-add n (comes_in share' ends' d) share in
+        let fit = c.shares in
         omega arith
 
-    owed-none : (d : ℕ) → ((i : ℕ) → i < n → owedIn ends owed (d + 1) i ≡ 0) → sum n (owedIn ends' owed' d) ≡ 0
-    owed-none d z = sum-zero n (owedIn ends' owed' d) (λ i l. let one = owed-one d i l in let none = z i l in omega arith)
+    owed_none : (d : ℕ) → ((i : ℕ) → i < n → owed_in ends owed (d + 1) i ≡ 0) → sum n (owed_in ends' owed' d) ≡ 0
+    owed_none d z = sum-zero n (owed_in ends' owed' d) (λ i l. let one = owed-one d i l in let none = z i l in omega arith)
 
-    tick-within : (d : ℕ) → Covered n share ends owed → FirstServed → 10080 * sum n (owedIn ends' owed' d) ≤ sum n (comesIn share' ends' d)
+    tick-within : (d : ℕ) → Covered n share ends owed → FirstServed → 10080 * sum n (owed_in ends' owed' d) ≤ sum n (comes_in share' ends' d)
     tick-within d c (inl nothing) =
-        let none = owed-none d (λ i l. let z = nothing i l in let w = owed-cases ends owed (d + 1) i in omega arith) in
+        let none = owed_none d (λ i l. let z = nothing i l in let w = owed-cases ends owed (d + 1) i in omega arith) in
         omega arith
     tick-within d c (inr (k, l, s, f)) =
-        elim (cases-lt (d + 1) (ends k)) [
+        elim (cases_lt (d + 1) (ends k)) [
           | inl later ↦
-              let none = owed-none d (λ i b. let z = f i b in let w = owed-cases ends owed (d + 1) i in elim (cases-eq (owed i) 0) [ inl e ↦ omega arith | inr more ↦ let far = z (omega arith) in omega arith ]) in
+              let none = owed_none d (λ i b. let z = f i b in let w = owed-cases ends owed (d + 1) i in elim (cases_eq (owed i) 0) [ inl e ↦ omega arith | inr more ↦ let far = z (omega arith) in omega arith ]) in
               omega arith
           | inr within ↦
-              let e = p .sooner k l in
+              let e = p.sooner k l in
               let before = owed-cases ends owed (d + 1) k in
               let after = owed-cases ends' owed' d k in
-              let fewer = sum-lt n k (owedIn ends' owed' d) (owedIn ends owed (d + 1)) l (omega arith) (owed-one d) in
+              let fewer = sum_lt n k (owed_in ends' owed' d) (owed_in ends owed (d + 1)) l (omega arith) (owed-one d) in
               let less = comes-less d c in
-              let was = c .covered (d + 1) in
+              let was = c.covered (d + 1) in
               omega arith
         ]
 
     pub tick-covered : Covered n share ends owed → FirstServed → Covered n share' ends' owed'
     tick-covered c s =
         record {
-          shares = let less = sum-le n share' share (p .share-less) in let fit = c .shares in omega arith;
+          shares = let less = sum-le n share' share p.share-less in let fit = c.shares in omega arith;
           covered = λ d. tick-within d c s;
         }
 
 -- With one tick left nothing is owed: shares come to less than a whole tick.
 pub last-covered : (n : ℕ) (share ends owed : ℕ → ℕ) → Covered n share ends owed → (i : ℕ) → i < n → ends i ≡ 1 → owed i ≡ 0
 last-covered n share ends owed c i l e =
-    let small = sum-le n (comesIn share ends 1) share (λ j _. let most = mul-le-mul-left {m = min 1 (ends j)} {n = 1} (share j) (omega arith) in omega arith) in
-    let term = sum-term n i (owedIn ends owed 1) l in
+    let small = sum-le n (comes_in share ends 1) share (λ j _. let most = mul-le-mul_left {m = min 1 (ends j)} {n = 1} (share j) (omega arith) in omega arith) in
+    let term = sum-term n i (owed_in ends owed 1) l in
     let is = owed-cases ends owed 1 i in
-    let was = c .covered 1 in
-    let fit = c .shares in
+    let was = c.covered 1 in
+    let fit = c.shares in
     omega arith

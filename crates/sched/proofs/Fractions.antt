@@ -1,22 +1,20 @@
 -- Fractions with positive denominators, compared by products: x / v ≤ y / w is x * w ≤ y * v.
 -- A mixed number f and r parts of o is the fraction (f * o + r) / o.
-use mathlib.Core.Path.{_≡_, subst}
-use Prim.Native.Nat.{ℕ, _+_, _-_, _*_, _/_, _%_, _<_, _≤_}
-use native.Mathlib.Nat.{mul-le-mul-right, mul-lt-mul-of-pos-right, le-of-mul-le-mul-right, lt-of-mul-lt-mul-left, div-add-mod, div-lt-iff-lt-mul, mod-lt}
-use native.Mathlib.Omega.{arith}
+use Rattle.std.proofs.Common.{◌≡◌, ℕ, ◌+◌, ◌-◌, ◌*◌, ◌/◌, ◌%◌, ◌<◌, ◌≤◌, subst, mul-le-mul_right, mod-lt, div-lt_iff_lt-mul, mul-lt-mul_of_pos_right, le_of_mul-le-mul_right, arith}
+use native.Mathlib.Nat.{lt_of_mul-lt-mul_left, div-add-mod}
 
 -- x / v ≤ y / w ≤ z / u
 pub le-trans-frac : (x v y w z u : ℕ) → 0 < w → x * w ≤ y * v → y * u ≤ z * w → x * u ≤ z * v
-le-trans-frac x v y w z u pw h k = le-of-mul-le-mul-right {k = w} (omega (arith, mul-le-mul-right u h, mul-le-mul-right v k)) pw
+le-trans-frac x v y w z u pw h k = le_of_mul-le-mul_right {k = w} (omega (arith, mul-le-mul_right u h, mul-le-mul_right v k)) pw
 
 -- x / v < y / w + k / v and y / w ≤ z / u
 pub near-le-frac : (x v y w z u k : ℕ) → 0 < u → x * w < y * v + k * w → y * u ≤ z * w → x * u < z * v + k * u
-near-le-frac x v y w z u k pu h l = lt-of-mul-lt-mul-left w (omega (arith, mul-le-mul-right u h, mul-le-mul-right v l))
+near-le-frac x v y w z u k pu h l = lt_of_mul-lt-mul_left w (omega (arith, mul-le-mul_right u h, mul-le-mul_right v l))
 
 -- of mixed numbers with proper rests a smaller whole is less
 pub lt-by-whole : (f r o g s p : ℕ) → r < o → 0 < p → f < g → (f * o + r) * p < (g * p + s) * o
 lt-by-whole f r o g s p lr pp lf =
-    omega (arith, mul-lt-mul-of-pos-right {k = p} lr pp, mul-le-mul-right (o * p) lf)
+    omega (arith, mul-lt-mul_of_pos_right {k = p} lr pp, mul-le-mul_right (o * p) lf)
 
 pub lt-by-rest : (f r o g s p : ℕ) → f ≡ g → r * p < s * o → (f * o + r) * p < (g * p + s) * o
 lt-by-rest f r o g s p e l = let P : ℕ → Type 0 = λ x. (f * o + r) * p < (x * p + s) * o in subst P e (omega arith)
@@ -35,7 +33,7 @@ ceiling-below z o po = omega (arith, div-add-mod (z + (o - 1)) o)
 pub ceiling-fits : (r w o : ℕ) → r < o → (r * w + (o - 1)) / o ≤ w
 ceiling-fits r w o lr =
     let po : 0 < o = omega arith in
-    let below : (r * w + (o - 1)) / o < w + 1 = div-lt-iff-lt-mul po .1 (omega (arith, mul-le-mul-right w lr)) in
+    let below : (r * w + (o - 1)) / o < w + 1 = (div-lt_iff_lt-mul po).1 (omega (arith, mul-le-mul_right w lr)) in
     omega arith
 
 -- whole part and rest of z parts of w make z parts

@@ -1,111 +1,105 @@
 -- Windows and places through a tick, one after the other: what is written at a place is what the rules say of it.
-use mathlib.Core.Path.{_≡_, refl, sym, ap, _∙_}
-use mathlib.Core.Bool.{Bool, true, false, cond, true≢false, false≢true}
-use mathlib.Core.List.{List}
-use Prim.Native.Nat.{ℕ, suc, _+_}
-use native.Mathlib.Omega.{arith}
-use lib.Dec.{eqb}
-use Rattle·std.proofs.shelf.Tests.{ne-eqb}
-use Rattle·std.proofs.shelf.Ways.{tells}
-use Rattle·std.specs.declared.option.Option.{Option}
-use Rattle·std.specs.declared.option.Option.the-variants.{Some, None}
-use Rattle·quantities.specs.declared.ids.TaskId.{TaskId}
-use Rattle·windows.specs.Life as life
-use Rattle·windows.specs.declared.Window as code-window
-use Rattle·windows.specs.declared.Window.the-variants as window-is
-use Rattle·sched·specs.declared.Kind.the-variants.{Reserved, Fixed, Fair}
-use Rattle·sched·specs.declared.tasks.Slot.{Slot}
-use Rattle·sched·specs.declared.tasks.Slot.the-variants as slot
-use Rattle·sched·specs.House.{House, Place, Nobody, A, Kept, Window, Shut, Open, put, shareOf, shareOfKind, isReserved, periodOf, openWith, openKept, windowed, passed, freed, ticked}
-use Rattle·sched·specs.Stores.{Reads, placeOf, windowOf, ownerOf, reservedPlace, hasWindow}
-use Rattle·sched·proofs.Lives.{read, window-read, begin-told, kept-told}
-use Rattle·sched·proofs.Upto.{upto, upto-from, upto-more}
+use Rattle.std.proofs.Common.{◌≡◌, ℕ, suc, ◌+◌, Bool, true, false, cond, eqb, List, Some, None, Option, sym, refl, ap, ◌∙◌, true≢false, arith}
+use mathlib.Core.Bool.{false≢true}
+use Rattle.std.proofs.lemmas.Bool.{ne_eqb}
+use Rattle.std.proofs.lemmas.Bool.Decides.{nat_tests}
+use Rattle.quantities.specs.declared.ids.TaskId.{TaskId}
+use Rattle.windows.specs.Life as life
+use Rattle.windows.specs.declared.Window as code-window
+use Rattle.windows.specs.declared.Window.TheVariants as window-is
+use Rattle.sched.specs.declared.Kind.TheVariants.{Reserved, Fixed, Fair}
+use Rattle.sched.specs.declared.tasks.Slot.{Slot}
+use Rattle.sched.specs.declared.tasks.Slot.TheVariants as slot
+use Rattle.sched.specs.House.{House, Place, Nobody, A, Kept, Window, Shut, Open, put, share_of, share_of_kind, is_reserved, period_of, open_with, open_kept, windowed, passed, freed, ticked}
+use Rattle.sched.specs.Stores.{Reads, place_of, window_of, owner_of, reserved_place, has_window}
+use Rattle.sched.proofs.Lives.{read, window-read, begin-told, kept-told}
+use Rattle.sched.proofs.Upto.{upto, upto_from, upto-more}
 
 -- THE TICK BEGINS
 module _ (w r : code-window.Window) (p : Place) (v : Bool) (x : Window) where
-  pub begin-reserved : (b : Bool) (q d : ℕ) → p ≡ reservedPlace q d → b ≡ v → windowOf w ≡ x → life.life r ≡ life.openWith b d (life.life w) → windowOf r ≡ cond (isReserved p) (openWith v (periodOf p) x) (openKept x)
-  unfolding isReserved periodOf
+  pub begin-reserved : (b : Bool) (q d : ℕ) → p ≡ reserved_place q d → b ≡ v → window_of w ≡ x → life.life r ≡ life.open_with b d (life.life w) → window_of r ≡ cond (is_reserved p) (open_with v (period_of p) x) (open_kept x)
+  unfolding is_reserved period_of
   begin-reserved b q d e f g told = rw (e, ← f, ← g) (begin-told w r b d told)
 
-  pub begin-other : isReserved p ≡ false → windowOf w ≡ x → life.life r ≡ life.openKept (life.life w) → windowOf r ≡ cond (isReserved p) (openWith v (periodOf p) x) (openKept x)
+  pub begin-other : is_reserved p ≡ false → window_of w ≡ x → life.life r ≡ life.open_kept (life.life w) → window_of r ≡ cond (is_reserved p) (open_with v (period_of p) x) (open_kept x)
   begin-other e g told = rw (e, ← g) (kept-told w r told)
 
 -- an open window of a task that wants stays
-whole-still : (p : ℕ) (l : life.Life) → life.isOpen l ≡ true → openWith true p (read l) ≡ read l
-unfolding openWith
+whole-still : (p : ℕ) (l : life.Life) → life.is_open l ≡ true → open_with true p (read l) ≡ read l
+unfolding open_with
 whole-still p life.Shut e = absurd (false≢true e)
 whole-still p (life.Open x g true) e = refl
 whole-still p (life.Open x g false) e = refl
 
-pub begin-stays : (w : code-window.Window) (p : Place) (v : Bool) (x : Window) (q d : ℕ) → p ≡ reservedPlace q d → v ≡ true → life.isOpen (life.life w) ≡ true → windowOf w ≡ x → cond (isReserved p) (openWith v (periodOf p) x) (openKept x) ≡ x
-unfolding isReserved periodOf
+pub begin-stays : (w : code-window.Window) (p : Place) (v : Bool) (x : Window) (q d : ℕ) → p ≡ reserved_place q d → v ≡ true → life.is_open (life.life w) ≡ true → window_of w ≡ x → cond (is_reserved p) (open_with v (period_of p) x) (open_kept x) ≡ x
+unfolding is_reserved period_of
 begin-stays w p v x q d e f o g = rw (e, f, ← g, window-read w) (whole-still d (life.life w) o)
 
 -- where no window may be open, no task is reserved, and no place is kept
-pub closed-unreserved : (p : Place) → hasWindow p ≡ false → isReserved p ≡ false
-unfolding hasWindow isReserved
+pub closed-unreserved : (p : Place) → has_window p ≡ false → is_reserved p ≡ false
+unfolding has_window is_reserved
 closed-unreserved Nobody e = refl
 closed-unreserved (A (Reserved q p)) e = absurd (true≢false e)
 closed-unreserved (A (Fixed r)) e = refl
 closed-unreserved (A (Fair w)) e = refl
 closed-unreserved (Kept q p) e = refl
 
-pub closed-shareless : (p : Place) → hasWindow p ≡ false → shareOf p ≡ 0
-unfolding hasWindow shareOf shareOfKind
+pub closed-shareless : (p : Place) → has_window p ≡ false → share_of p ≡ 0
+unfolding has_window share_of share_of_kind
 closed-shareless Nobody e = refl
 closed-shareless (A (Reserved q p)) e = absurd (true≢false e)
 closed-shareless (A (Fixed r)) e = refl
 closed-shareless (A (Fair w)) e = refl
 closed-shareless (Kept q p) e = absurd (true≢false e)
 
-pub freed-closed : (w : Window) (p : Place) → hasWindow p ≡ false → freed w p ≡ p
-unfolding hasWindow freed
+pub freed-closed : (w : Window) (p : Place) → has_window p ≡ false → freed w p ≡ p
+unfolding has_window freed
 freed-closed (Open e g b) p c = refl
 freed-closed Shut Nobody c = refl
 freed-closed Shut (A k) c = refl
 freed-closed Shut (Kept q p) c = absurd (true≢false c)
 
 -- so nothing opens
-pub begin-past : (h : House) (k : ℕ) → hasWindow (h .place k) ≡ false → h .window k ≡ Shut → windowed h .window k ≡ h .window k
-unfolding openKept
-begin-past h k p w = rw (closed-unreserved (h .place k) p, w) refl
+pub begin-past : (h : House) (k : ℕ) → has_window (h.place k) ≡ false → h.window k ≡ Shut → (windowed h).window k ≡ h.window k
+unfolding open_kept
+begin-past h k p w = rw (closed-unreserved (h.place k) p, w) refl
 
 -- THE TICK PASSES
-pub mine-some : (whose : Option TaskId) (j : TaskId) (a b i : ℕ) → whose ≡ Some j → a ≡ j .index → b ≡ i → eqb a b ≡ eqb (ownerOf whose) (suc i)
-unfolding ownerOf
-mine-some whose j a b i e f g = rw (e, f, g) (grind (arith, tells))
+pub mine-some : (whose : Option TaskId) (j : TaskId) (a b i : ℕ) → whose ≡ Some j → a ≡ j.index → b ≡ i → eqb a b ≡ eqb (owner_of whose) (suc i)
+unfolding owner_of
+mine-some whose j a b i e f g = rw (e, f, g) (grind (arith, nat_tests))
 
-pub mine-none : (whose : Option TaskId) (i : ℕ) → whose ≡ None → false ≡ eqb (ownerOf whose) (suc i)
-unfolding ownerOf
-mine-none whose i e = rw e (sym (ne-eqb 0 (suc i) (omega arith)))
+pub mine-none : (whose : Option TaskId) (i : ℕ) → whose ≡ None → false ≡ eqb (owner_of whose) (suc i)
+unfolding owner_of
+mine-none whose i e = rw e (sym (ne_eqb 0 (suc i) (omega arith)))
 
 open-freed : (e g : ℕ) (b : Bool) (p : Place) → freed (Open e g b) p ≡ p
 unfolding freed
 open-freed e g b p = refl
 
 -- an open window keeps its place
-pub open-keeps : (w : code-window.Window) (p : Place) → life.isOpen (life.life w) ≡ true → freed (windowOf w) p ≡ p
+pub open-keeps : (w : code-window.Window) (p : Place) → life.is_open (life.life w) ≡ true → freed (window_of w) p ≡ p
 open-keeps w p e = ap (λ x. freed x p) (window-read w) ∙ keeps (life.life w) e
   where
-    keeps : (l : life.Life) → life.isOpen l ≡ true → freed (read l) p ≡ p
+    keeps : (l : life.Life) → life.is_open l ≡ true → freed (read l) p ≡ p
     keeps life.Shut e = absurd (false≢true e)
     keeps (life.Open x g b) e = open-freed x g b p
 
 module _ (h : House) (r n i : ℕ) (mine : Bool) (e : i ≡ n) (is : mine ≡ eqb r (suc i)) where
-  still-window : passed mine (upto n (ticked h r .window) (h .window) i) ≡ ticked h r .window i
-  still-window = rw (is, upto-from (ticked h r .window) (h .window) n i (omega arith)) refl
+  still-window : passed mine (upto n (ticked h r).window h.window i) ≡ (ticked h r).window i
+  still-window = rw (is, upto_from (ticked h r).window h.window n i (omega arith)) refl
 
-  pub pass-windows : (xs : List code-window.Window) → Reads windowOf window-is.Shut xs (put i (passed mine (upto n (ticked h r .window) (h .window) i)) (upto n (ticked h r .window) (h .window))) →
-      Reads windowOf window-is.Shut xs (upto (n + 1) (ticked h r .window) (h .window))
-  pass-windows xs = upto-more (ticked h r .window) (h .window) windowOf window-is.Shut xs n i (passed mine (upto n (ticked h r .window) (h .window) i)) e still-window
+  pub pass-windows : (xs : List code-window.Window) → Reads window_of window-is.Shut xs (put i (passed mine (upto n (ticked h r).window h.window i)) (upto n (ticked h r).window h.window)) →
+      Reads window_of window-is.Shut xs (upto (n + 1) (ticked h r).window h.window)
+  pass-windows xs = upto-more (ticked h r).window h.window window_of window-is.Shut xs n i (passed mine (upto n (ticked h r).window h.window i)) e still-window
 
-  pub pass-places : (xs : List Slot) → Reads placeOf slot.Free xs (put i (freed (passed mine (upto n (ticked h r .window) (h .window) i)) (upto n (ticked h r .place) (h .place) i)) (upto n (ticked h r .place) (h .place))) →
-      Reads placeOf slot.Free xs (upto (n + 1) (ticked h r .place) (h .place))
+  pub pass-places : (xs : List Slot) → Reads place_of slot.Free xs (put i (freed (passed mine (upto n (ticked h r).window h.window i)) (upto n (ticked h r).place h.place i)) (upto n (ticked h r).place h.place)) →
+      Reads place_of slot.Free xs (upto (n + 1) (ticked h r).place h.place)
   pass-places xs =
-      upto-more (ticked h r .place) (h .place) placeOf slot.Free xs n i (freed (passed mine (upto n (ticked h r .window) (h .window) i)) (upto n (ticked h r .place) (h .place) i)) e
-      (rw (still-window, upto-from (ticked h r .place) (h .place) n i (omega arith)) refl)
+      upto-more (ticked h r).place h.place place_of slot.Free xs n i (freed (passed mine (upto n (ticked h r).window h.window i)) (upto n (ticked h r).place h.place i)) e
+      (rw (still-window, upto_from (ticked h r).place h.place n i (omega arith)) refl)
 
 -- where no window is open nothing passes
-pub pass-windows-past : (h : House) (r k : ℕ) → h .window k ≡ Shut → ticked h r .window k ≡ h .window k
+pub pass-windows-past : (h : House) (r k : ℕ) → h.window k ≡ Shut → (ticked h r).window k ≡ h.window k
 unfolding passed
 pass-windows-past h r k w = rw w refl

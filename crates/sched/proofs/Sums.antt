@@ -1,17 +1,13 @@
 -- `sum` below a variable n: compared term by term, split, and changed at one term.
 -- What a lemma asks of the terms it asks only below n.
-use mathlib.Core.Path.{_≡_, refl, sym, ap}
-use mathlib.Core.Logic.{_⊎_, inl, inr}
-use Prim.Native.Nat.{ℕ, zero, suc, _+_, _*_, _≤_, _<_}
-use native.Mathlib.Numerals.{add-one}
-use native.Mathlib.Omega.{arith}
-use Rattle·std.proofs.shelf.Tests.{cases-eq}
-use Rattle·sched·specs.House.{sum}
+use Rattle.std.proofs.Common.{◌≡◌, ℕ, zero, suc, ◌+◌, ◌*◌, ◌<◌, ◌≤◌, ◌⊎◌, sym, refl, ap, inl, inr, add-one, arith}
+use Rattle.std.proofs.lemmas.Bool.{cases_eq}
+use Rattle.sched.specs.House.{sum}
 
 -- one more term, as a loop counts
-pub sum-more : (n : ℕ) (f : ℕ → ℕ) → sum (n + 1) f ≡ sum n f + f n
+pub sum_more : (n : ℕ) (f : ℕ → ℕ) → sum (n + 1) f ≡ sum n f + f n
 unfolding sum
-sum-more n f = rw add-one refl
+sum_more n f = rw add-one refl
 
 pub sum-le : (n : ℕ) (f g : ℕ → ℕ) → ((i : ℕ) → i < n → f i ≤ g i) → sum n f ≤ sum n g
 unfolding sum
@@ -21,11 +17,11 @@ sum-le (suc n) f g h =
     let here = h n (omega arith) in
     omega arith
 
-pub sum-same : (n : ℕ) (f g : ℕ → ℕ) → ((i : ℕ) → i < n → f i ≡ g i) → sum n f ≡ sum n g
+pub sum_same : (n : ℕ) (f g : ℕ → ℕ) → ((i : ℕ) → i < n → f i ≡ g i) → sum n f ≡ sum n g
 unfolding sum
-sum-same zero f g h = refl
-sum-same (suc n) f g h =
-    let below = sum-same n f g (λ i l. h i (omega arith)) in
+sum_same zero f g h = refl
+sum_same (suc n) f g h =
+    let below = sum_same n f g (λ i l. h i (omega arith)) in
     let here = h n (omega arith) in
     omega arith
 
@@ -48,13 +44,13 @@ sum-zero (suc n) f h =
     omega arith
 
 -- terms from some place on that are all 0 add nothing
-pub sum-past : (k n : ℕ) (f : ℕ → ℕ) → k ≤ n → ((i : ℕ) → k ≤ i → f i ≡ 0) → sum k f ≡ sum n f
+pub sum_past : (k n : ℕ) (f : ℕ → ℕ) → k ≤ n → ((i : ℕ) → k ≤ i → f i ≡ 0) → sum k f ≡ sum n f
 unfolding sum
-sum-past k zero f l none = let e : k ≡ 0 = omega arith in ap (λ m. sum m f) e
-sum-past k (suc n) f l none =
-    elim (cases-eq k (suc n)) [
+sum_past k zero f l none = let e : k ≡ 0 = omega arith in ap (λ m. sum m f) e
+sum_past k (suc n) f l none =
+    elim (cases_eq k (suc n)) [
       | inl e ↦ ap (λ m. sum m f) e
-      | inr d ↦ let below = sum-past k n f (omega arith) none in let here = none n (omega arith) in omega arith
+      | inr d ↦ let below = sum_past k n f (omega arith) none in let here = none n (omega arith) in omega arith
     ]
 
 -- no term is more than the sum
@@ -62,7 +58,7 @@ pub sum-term : (n k : ℕ) (f : ℕ → ℕ) → k < n → f k ≤ sum n f
 unfolding sum
 sum-term zero k f l = omega arith
 sum-term (suc n) k f l =
-    elim (cases-eq k n) [
+    elim (cases_eq k n) [
       | inl e ↦ let here : f k ≡ f n = ap f e in omega arith
       | inr d ↦ let below = sum-term n k f (omega arith) in omega arith
     ]
@@ -72,9 +68,9 @@ pub sum-but : (n k : ℕ) (f g : ℕ → ℕ) → k < n → ((i : ℕ) → i < n
 unfolding sum
 sum-but zero k f g l h = omega arith
 sum-but (suc n) k f g l h =
-    elim (cases-eq k n) [
+    elim (cases_eq k n) [
       | inl e ↦
-          let below = sum-same n f g (λ i b. h i (omega arith) (λ same. omega arith)) in
+          let below = sum_same n f g (λ i b. h i (omega arith) (λ same. omega arith)) in
           let f-here : f k ≡ f n = ap f e in
           let g-here : g k ≡ g n = ap g e in
           omega arith
@@ -85,18 +81,18 @@ sum-but (suc n) k f g l h =
     ]
 
 -- less somewhere and nowhere more is less
-pub sum-lt : (n k : ℕ) (f g : ℕ → ℕ) → k < n → f k < g k → ((i : ℕ) → i < n → f i ≤ g i) → sum n f < sum n g
+pub sum_lt : (n k : ℕ) (f g : ℕ → ℕ) → k < n → f k < g k → ((i : ℕ) → i < n → f i ≤ g i) → sum n f < sum n g
 unfolding sum
-sum-lt zero k f g l s h = omega arith
-sum-lt (suc n) k f g l s h =
-    elim (cases-eq k n) [
+sum_lt zero k f g l s h = omega arith
+sum_lt (suc n) k f g l s h =
+    elim (cases_eq k n) [
       | inl e ↦
           let below = sum-le n f g (λ i b. h i (omega arith)) in
           let f-here : f k ≡ f n = ap f e in
           let g-here : g k ≡ g n = ap g e in
           omega arith
       | inr d ↦
-          let below = sum-lt n k f g (omega arith) s (λ i b. h i (omega arith)) in
+          let below = sum_lt n k f g (omega arith) s (λ i b. h i (omega arith)) in
           let here = h n (omega arith) in
           omega arith
     ]
@@ -105,7 +101,7 @@ sum-lt (suc n) k f g l s h =
 pub sum-some : (n : ℕ) (f : ℕ → ℕ) → (sum n f ≡ 0) ⊎ ((i : ℕ) × (i < n) × (0 < f i))
 unfolding sum
 sum-some zero f = inl refl
-sum-some (suc n) f = go (sum-some n f) (cases-eq (f n) 0)
+sum-some (suc n) f = go (sum-some n f) (cases_eq (f n) 0)
   where
     go : (sum n f ≡ 0) ⊎ ((i : ℕ) × (i < n) × (0 < f i)) → (f n ≡ 0) ⊎ (f n ≡ 0 → ⊥) → (sum (suc n) f ≡ 0) ⊎ ((i : ℕ) × (i < suc n) × (0 < f i))
     go (inl none) (inl e) = inl (omega arith)

@@ -1,19 +1,18 @@
 -- A test as a fact, `T b`, and as an equation, `b ≡ true`: from each to the other, and through `&&`.
-use mathlib.Core.Path.{_≡_, refl, sym}
-use mathlib.Core.Bool.{Bool, true, false, _&&_, false≢true}
-use lib.Dec.{T}
+use Rattle.std.proofs.Common.{◌≡◌, Bool, true, false, ◌&&◌, T, sym, refl}
+use mathlib.Core.Bool.{false≢true}
 
-pub T-true : (b : Bool) → T b → b ≡ true
-T-true true t = refl
-T-true false t = absurd t
+pub T_true : (b : Bool) → T b → b ≡ true
+T_true true t = refl
+T_true false t = absurd t
 
 pub true-T : (b : Bool) → b ≡ true → T b
 true-T true e = tt
 true-T false e = absurd (false≢true e)
 
-pub and-T : (a b : Bool) → T a → T b → T (a && b)
-and-T true b t u = u
-and-T false b t u = t
+pub and_T : (a b : Bool) → T a → T b → T (a && b)
+and_T true b t u = u
+and_T false b t u = t
 
 pub and-left-T : (a b : Bool) → T (a && b) → T a
 and-left-T true b t = tt
@@ -29,7 +28,7 @@ and-three true false c e = absurd (false≢true e)
 and-three false b c e = absurd (false≢true e)
 
 -- two tests that each imply the other are one
-pub same-test : (a b : Bool) → (a ≡ true → b ≡ true) → (b ≡ true → a ≡ true) → a ≡ b
-same-test true b f g = sym (f refl)
-same-test false true f g = g refl
-same-test false false f g = refl
+pub same_test : (a b : Bool) → (a ≡ true → b ≡ true) → (b ≡ true → a ≡ true) → a ≡ b
+same_test true b f g = sym (f refl)
+same_test false true f g = g refl
+same_test false false f g = refl

@@ -1,102 +1,96 @@
 -- The turn of each rank is the turn of all, of which only that rank counts: kept when a task is made or ends, and when one goes to the end.
-use mathlib.Core.Path.{_≡_, refl, sym, ap, subst, _∙_}
-use mathlib.Core.Bool.{Bool, true, false, cond, _&&_}
-use mathlib.Core.Logic.{inl, inr}
-use mathlib.Core.List.{List, [], _∷_, _++_}
-use Prim.Native.Nat.{ℕ, suc, _+_, _-_, _<_}
-use native.Mathlib.Omega.{arith}
-use lib.Dec.{eqb}
-use Rattle·std.proofs.shelf.Tests.{cond-both, cases-eq, and-parts, and-from, eq-eqb, ne-eqb, eqb-true, both-ways}
-use Rattle·queues.specs.Members as member
-use Rattle·queues.specs.Rings as queue
-use Rattle·queues.specs.Outcomes.{Pushed, Moved}
-use Rattle·queues.specs.declared.fifo.Queues.{Queues}
-use Rattle·queues.proofs.Standing.{holds-same}
-use Rattle·queues.proofs.Lists.{without-none}
-use Rattle·quantities.specs.declared.promises.Rank.{Rank}
-use Rattle·sched·specs.declared.promise.Promise.{Promise}
-use Rattle·sched·specs.declared.promise.Promise.the-variants as promised
-use Rattle·sched·specs.House.{Place, isFixed, rankOf, without, put}
-use Rattle·sched·specs.Promise.{times}
-use Rattle·sched·specs.Stores.{keep, ofRank, kindOf, taskPlace, fixedPlace}
-use Rattle·sched·specs.Turns.{OnceInTurn, turnAfter}
-use Rattle·sched·proofs.Puts.{put-here, put-else}
-use Rattle·sched·proofs.Keep.{without-same, times-member, keep-member, member-keep, keep-push, keep-same, keep-without}
-use Rattle·sched·proofs.model.Turn.{fixed-task}
+use Rattle.std.proofs.Common.{◌≡◌, ℕ, suc, ◌+◌, ◌-◌, ◌<◌, Bool, true, false, cond, ◌&&◌, eqb, List, [], ◌∷◌, ◌++◌, sym, refl, ap, ◌∙◌, subst, inl, inr, arith}
+use Rattle.std.proofs.lemmas.Bool.{cond_both, cases_eq, and_parts, and_from, eq-eqb, ne_eqb, eqb-true, both_ways}
+use Rattle.queues.specs.Members as member
+use Rattle.queues.specs.Rings as queue
+use Rattle.queues.specs.Outcomes.{Pushed, Moved}
+use Rattle.queues.specs.declared.fifo.Queues.{Queues}
+use Rattle.queues.proofs.Standing.{holds_same}
+use Rattle.queues.proofs.Lists.{without-none}
+use Rattle.quantities.specs.declared.promises.Rank.{Rank}
+use Rattle.sched.specs.declared.promise.Promise.{Promise}
+use Rattle.sched.specs.declared.promise.Promise.TheVariants as promised
+use Rattle.sched.specs.House.{Place, is_fixed, rank_of, without, put}
+use Rattle.sched.specs.Promise.{times}
+use Rattle.sched.specs.Stores.{keep, of_rank, kind_of, task_place, fixed_place}
+use Rattle.sched.specs.Turns.{OnceInTurn, turn_after}
+use Rattle.sched.proofs.Puts.{put-here, put-else}
+use Rattle.sched.proofs.Keep.{without-same, times-member, keep-member, member-keep, keep-push, keep_same, keep-without}
+use Rattle.sched.proofs.model.Turn.{fixed-task}
 
 -- the turn of each rank
 abbrev pub ranks : (ℕ → Place) → List ℕ → ℕ → List ℕ
-ranks place turn r = keep (ofRank place r) turn
+ranks place turn r = keep (of_rank place r) turn
 
 module _ (place : ℕ → Place) (turn : List ℕ) where
   -- who isn't in the turn is in no rank's
   pub absent-free : (i : ℕ) → times i turn ≡ 0 → member.Free (ranks place turn) i
-  absent-free i none r m = absurd (omega (arith, keep-member (ofRank place r) i turn m .1))
+  absent-free i none r m = absurd (omega (arith, (keep-member (of_rank place r) i turn m).1))
 
   -- nor is who isn't fixed
-  pub other-free : (i : ℕ) → isFixed (place i) ≡ false → member.Free (ranks place turn) i
+  pub other-free : (i : ℕ) → is_fixed (place i) ≡ false → member.Free (ranks place turn) i
   other-free i none r m =
-      absurd (both-ways (isFixed (place i)) none (and-parts (isFixed (place i)) (eqb (rankOf (place i)) r) (keep-member (ofRank place r) i turn m .0) .0))
+      absurd (both_ways (is_fixed (place i)) none (and_parts (is_fixed (place i)) (eqb (rank_of (place i)) r) (keep-member (of_rank place r) i turn m).0).0)
 
   -- a fixed task is in that of its rank
-  pub fixed-member : (i : ℕ) → isFixed (place i) ≡ true → OnceInTurn place turn → member.Member i (ranks place turn (rankOf (place i)))
+  pub fixed-member : (i : ℕ) → is_fixed (place i) ≡ true → OnceInTurn place turn → member.Member i (ranks place turn (rank_of (place i)))
   fixed-member i fixed once =
-      member-keep (ofRank place (rankOf (place i))) i turn (and-from _ _ fixed (eq-eqb (rankOf (place i)) (rankOf (place i)) refl))
+      member-keep (of_rank place (rank_of (place i))) i turn (and_from _ _ fixed (eq-eqb (rank_of (place i)) (rank_of (place i)) refl))
       (times-member i turn (let one : times i turn ≡ 1 = rw (fixed-task (place i) fixed) at (once i) in omega arith))
 
   module _ (i : ℕ) (p : Place) (none : times i turn ≡ 0) where
     -- a new task changes nothing for the others
-    others-kept : (r : ℕ) → keep (ofRank (put i p place) r) turn ≡ ranks place turn r
+    others-kept : (r : ℕ) → keep (of_rank (put i p place) r) turn ≡ ranks place turn r
     others-kept r =
-        keep-same (ofRank (put i p place) r) (ofRank place r) turn
-        (λ k m. ap (λ x. isFixed x && eqb (rankOf x) r) (put-else i p place k (λ e. let there : 0 < times i turn = rw e at m in absurd (omega arith))))
+        keep_same (of_rank (put i p place) r) (of_rank place r) turn
+        (λ k m. ap (λ x. is_fixed x && eqb (rank_of x) r) (put-else i p place k (λ e. let there : 0 < times i turn = rw e at m in absurd (omega arith))))
 
-    made-ranks : (r : ℕ) → ranks (put i p place) (turn ++ (i ∷ [])) r ≡ cond (isFixed p && eqb (rankOf p) r) (ranks place turn r ++ (i ∷ [])) (ranks place turn r)
-    made-ranks r = keep-push (ofRank (put i p place) r) i turn ∙ rw (others-kept r, put-here i p place i refl) refl
+    made-ranks : (r : ℕ) → ranks (put i p place) (turn ++ (i ∷ [])) r ≡ cond (is_fixed p && eqb (rank_of p) r) (ranks place turn r ++ (i ∷ [])) (ranks place turn r)
+    made-ranks r = keep-push (of_rank (put i p place) r) i turn ∙ rw (others-kept r, put-here i p place i refl) refl
 
     -- it is the last of its rank
-    pub made-fixed : (s : Queues) → isFixed p ≡ true → queue.Holds s (put (rankOf p) (ranks place turn (rankOf p) ++ (i ∷ [])) (ranks place turn)) → queue.Holds s (ranks (put i p place) (turn ++ (i ∷ [])))
+    pub made-fixed : (s : Queues) → is_fixed p ≡ true → queue.Holds s (put (rank_of p) (ranks place turn (rank_of p) ++ (i ∷ [])) (ranks place turn)) → queue.Holds s (ranks (put i p place) (turn ++ (i ∷ [])))
     made-fixed s fixed h =
-        holds-same h
-        (λ r. sym (made-ranks r ∙ (rw fixed (elim (cases-eq r (rankOf p)) [
-          | inl e ↦ rw (e, eq-eqb (rankOf p) (rankOf p) refl) refl
-          | inr d ↦ rw (ne-eqb r (rankOf p) d, ne-eqb (rankOf p) r (λ e. d (sym e))) refl
+        holds_same h
+        (λ r. sym (made-ranks r ∙ (rw fixed (elim (cases_eq r (rank_of p)) [
+          | inl e ↦ rw (e, eq-eqb (rank_of p) (rank_of p) refl) refl
+          | inr d ↦ rw (ne_eqb r (rank_of p) d, ne_eqb (rank_of p) r (λ e. d (sym e))) refl
         ]))))
 
-    pub made-other : (s : Queues) → isFixed p ≡ false → queue.Holds s (ranks place turn) → queue.Holds s (ranks (put i p place) (turn ++ (i ∷ [])))
-    made-other s other h = holds-same h (λ r. sym (made-ranks r ∙ rw other refl))
+    pub made_other : (s : Queues) → is_fixed p ≡ false → queue.Holds s (ranks place turn) → queue.Holds s (ranks (put i p place) (turn ++ (i ∷ [])))
+    made_other s other h = holds_same h (λ r. sym (made-ranks r ∙ rw other refl))
 
   -- who ends is taken out
-  pub ended-ranks : (i : ℕ) (p : Place) (s : Queues) → isFixed p ≡ false → queue.Holds s (λ r. member.without i (ranks place turn r)) → queue.Holds s (ranks (put i p place) (without i turn))
+  pub ended-ranks : (i : ℕ) (p : Place) (s : Queues) → is_fixed p ≡ false → queue.Holds s (λ r. member.without i (ranks place turn r)) → queue.Holds s (ranks (put i p place) (without i turn))
   ended-ranks i p s other h =
-      holds-same h
-      (λ r. without-same i (ranks place turn r) ∙ sym (keep-without (ofRank place r) (ofRank (put i p place) r) i turn (λ k d. ap (λ x. isFixed x && eqb (rankOf x) r) (put-else i p place k d))))
+      holds_same h
+      (λ r. without-same i (ranks place turn r) ∙ sym (keep-without (of_rank place r) (of_rank (put i p place) r) i turn (λ k d. ap (λ x. is_fixed x && eqb (rank_of x) r) (put-else i p place k d))))
 
   -- a fixed task goes to the end of its rank
-  pub moved-ranks : (i : ℕ) (s : Queues) → isFixed (place i) ≡ true →
-      queue.Holds s (put (rankOf (place i)) (member.without i (ranks place turn (rankOf (place i))) ++ (i ∷ [])) (ranks place turn)) → queue.Holds s (ranks place (without i turn ++ (i ∷ [])))
+  pub moved-ranks : (i : ℕ) (s : Queues) → is_fixed (place i) ≡ true →
+      queue.Holds s (put (rank_of (place i)) (member.without i (ranks place turn (rank_of (place i))) ++ (i ∷ [])) (ranks place turn)) → queue.Holds s (ranks place (without i turn ++ (i ∷ [])))
   moved-ranks i s fixed h =
-      holds-same h (λ r. sym (keep-push (ofRank place r) i (without i turn) ∙ (rw (fixed, keep-without (ofRank place r) (ofRank place r) i turn (λ k d. refl)) (elim (cases-eq r (rankOf (place i))) [
-        | inl e ↦ rw (e, eq-eqb (rankOf (place i)) (rankOf (place i)) refl, without-same i (ranks place turn (rankOf (place i)))) refl
-        | inr d ↦ rw (ne-eqb r (rankOf (place i)) d, ne-eqb (rankOf (place i)) r (λ e. d (sym e))) (absent r d)
+      holds_same h (λ r. sym (keep-push (of_rank place r) i (without i turn) ∙ (rw (fixed, keep-without (of_rank place r) (of_rank place r) i turn (λ k d. refl)) (elim (cases_eq r (rank_of (place i))) [
+        | inl e ↦ rw (e, eq-eqb (rank_of (place i)) (rank_of (place i)) refl, without-same i (ranks place turn (rank_of (place i)))) refl
+        | inr d ↦ rw (ne_eqb r (rank_of (place i)) d, ne_eqb (rank_of (place i)) r (λ e. d (sym e))) (absent r d)
       ]))))
     where
-      absent : (r : ℕ) → (r ≡ rankOf (place i) → ⊥) → without i (ranks place turn r) ≡ ranks place turn r
+      absent : (r : ℕ) → (r ≡ rank_of (place i) → ⊥) → without i (ranks place turn r) ≡ ranks place turn r
       absent r d =
           sym (without-same i (ranks place turn r)) ∙ without-none i (ranks place turn r)
-          (λ m. d (sym (eqb-true (rankOf (place i)) r (and-parts (isFixed (place i)) (eqb (rankOf (place i)) r) (keep-member (ofRank place r) i turn m .0) .1))))
+          (λ m. d (sym (eqb-true (rank_of (place i)) r (and_parts (is_fixed (place i)) (eqb (rank_of (place i)) r) (keep-member (of_rank place r) i turn m).0).1)))
 
   -- A task is made: the queue of its rank has it last, if it is fixed.
-  pub made-pushed : (t : Queues) (i q : ℕ) (promise : Promise) (rank : Rank) (r : Bool) → promise ≡ promised.Fixed rank → q ≡ rank .value → times i turn ≡ 0 → Pushed t (ranks place turn) q i r →
-      queue.Holds t (ranks (put i (taskPlace promise) place) (turn ++ (i ∷ [])))
-  unfolding kindOf isFixed rankOf
+  pub made-pushed : (t : Queues) (i q : ℕ) (promise : Promise) (rank : Rank) (r : Bool) → promise ≡ promised.Fixed rank → q ≡ rank.value → times i turn ≡ 0 → Pushed t (ranks place turn) q i r →
+      queue.Holds t (ranks (put i (task_place promise) place) (turn ++ (i ∷ [])))
+  unfolding kind_of is_fixed rank_of
   made-pushed t i q promise rank r e same none p =
-      rw e (made-fixed i (fixedPlace (rank .value)) none t refl (let P : ℕ → Type 0 = λ n. queue.Holds t (put n (ranks place turn n ++ (i ∷ [])) (ranks place turn)) in subst P same (p .after (p .free (absent-free i none)))))
+      rw e (made-fixed i (fixed_place rank.value) none t refl (let P : ℕ → Type 0 = λ n. queue.Holds t (put n (ranks place turn n ++ (i ∷ [])) (ranks place turn)) in subst P same (p.after (p.free (absent-free i none)))))
 
   -- A tick has passed: the task goes to the end of its rank, if it is fixed.
-  pub passed-moved : (s t : Queues) (i : ℕ) (r : Bool) → OnceInTurn place turn → queue.Holds s (ranks place turn) → Moved t (ranks place turn) i r → (r ≡ false → t ≡ s) → queue.Holds t (ranks place (turnAfter (suc i) place turn))
+  pub passed-moved : (s t : Queues) (i : ℕ) (r : Bool) → OnceInTurn place turn → queue.Holds s (ranks place turn) → Moved t (ranks place turn) i r → (r ≡ false → t ≡ s) → queue.Holds t (ranks place (turn_after (suc i) place turn))
   passed-moved s t i r once h m same =
       let one : suc i - 1 ≡ i = omega arith in
-      rw (ne-eqb (suc i) 0 (omega arith), one)
-      (cond-both (isFixed (place i)) (without i turn ++ (i ∷ [])) turn (λ l. queue.Holds t (ranks place l)) (λ f. moved-ranks i t f (m .after (rankOf (place i)) (fixed-member i f once)))
-      (λ f. rw (same (m .free (other-free i f))) h))
+      rw (ne_eqb (suc i) 0 (omega arith), one)
+      (cond_both (is_fixed (place i)) (without i turn ++ (i ∷ [])) turn (λ l. queue.Holds t (ranks place l)) (λ f. moved-ranks i t f (m.after (rank_of (place i)) (fixed-member i f once)))
+      (λ f. rw (same (m.free (other-free i f))) h))

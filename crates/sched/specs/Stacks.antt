@@ -1,10 +1,8 @@
 -- A stack in an array, as a list.
 -- Assumes nothing.
-use mathlib.Core.List.{List, [], _∷_}
-use Prim.Native.Nat.{ℕ, zero, suc}
-use lib.ListN.{getD}
+use Rattle.std.specs.Prelude.{ℕ, zero, suc, List, [], ◌∷◌, slice_index}
 
 -- the first so many of an array, the last of them first
-unfoldable pub lastFirst : List ℕ → ℕ → List ℕ
-lastFirst xs zero = []
-lastFirst xs (suc d) = getD xs d 0 ∷ lastFirst xs d
+unfoldable pub last_first : List ℕ → ℕ → List ℕ
+last_first xs zero = []
+last_first xs (suc d) = slice_index xs d ∷ last_first xs d

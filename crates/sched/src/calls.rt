@@ -1,6 +1,7 @@
 // The six calls: what may turn a call away, in the order of the rules, then the change.
-ghost use mathlib.Core.Path.{_≡_};
-ghost use Rattle·sched·specs.Held.{concerns};
+ghost use Rattle.std.specs.Prelude.{◌≡◌};
+ghost use Rattle.sched.specs.Held.{concerns};
+
 use crate::Call;
 use quantities::ids::TaskId;
 
@@ -11,7 +12,7 @@ mod waking;
 impl Call {
     // Whether the task makes this call, or it is about the task.
     pub(crate) fn concerns(self, i: TaskId) -> bool
-        ensures { λ r. ⌜ r ≡ concerns (i .index) self ⌝ }
+        ensures { result ≡ concerns i.index self }
     {
         match self {
             Call::Make(_) => false,

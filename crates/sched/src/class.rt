@@ -1,12 +1,10 @@
 // The kinds of promise, as the tick sees them. Each is a type of its own, asked in the order of the rules; a further kind
 // is a further type.
-ghost use mathlib.Core.Path.{_≡_};
-ghost use mathlib.Core.Bool.{Bool, false};
-ghost use Prim.Native.Nat.{ℕ};
-ghost use Rattle·std.specs.Options.{Cases as BySome};
-ghost use Rattle·sched·specs.House.{House, some'};
-ghost use Rattle·sched·specs.Stores.{EmptyFrom};
-ghost use Rattle·sched·specs.Midtick.{SlotsOf, WantsOf};
+ghost use Rattle.std.specs.Prelude.{◌≡◌, ℕ, Bool, false, MatchOption};
+ghost use Rattle.sched.specs.House.{House, some'};
+ghost use Rattle.sched.specs.Stores.{EmptyFrom};
+ghost use Rattle.sched.specs.Midtick.{SlotsOf, WantsOf};
+
 use crate::tasks::Tasks;
 use crate::wants::Wants;
 use quantities::ids::TaskId;
@@ -21,5 +19,5 @@ pub trait Class {
 
     // Which of its tasks is to have the tick: none only if none asks.
     fn candidate(&self, tasks: &Tasks, wants: &Wants) -> Option<TaskId>
-        ensures { λ r. ⌜ ((h : House) → EmptyFrom (now (tasks .entry) .tops) h → SlotsOf (now (tasks .entry)) h → WantsOf (now (wants .entry)) h → stands (now (self .entry)) h → BySome r (some' 64 (asks h) ≡ false) (λ i. owed h (i .index))) ⌝ };
+        ensures { (h : House) → EmptyFrom tasks.now.tops h → SlotsOf tasks.now h → WantsOf wants.now h → stands self.now h → MatchOption result (some' 64 (asks h) ≡ false) (λ i. owed h i.index) };
 }

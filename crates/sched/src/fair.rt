@@ -1,13 +1,11 @@
 // Fair tasks: each is so far, in parts of its weight, and the least far that wants the tick has it.
-ghost use mathlib.Core.Path.{_≡_};
-ghost use mathlib.Core.Bool.{true, false};
-ghost use Prim.Native.Nat.{ℕ, suc, _+_, _<_};
-ghost use Rattle·std.specs.Options.{Cases as BySome};
-ghost use Rattle·sched·specs.House.{House, some', empty, weightOf, fairWants, opened, nearer, leastFar, ticked};
-ghost use Rattle·sched·specs.Promise.{Comes};
-ghost use Rattle·sched·specs.Stores.{Reads, EmptyFrom, placeOf, taskPlace, ownerOf, StandsBeyond, FairlyOf, madeAt};
-ghost use Rattle·sched·specs.Begun.{Wanting, StandsAt, Begins, Begun, LeastHas, Passing};
-ghost use Rattle·sched·specs.declared.tasks.Slot.the-variants as slot;
+ghost use Rattle.std.specs.Prelude.{◌≡◌, ℕ, suc, ◌+◌, ◌<◌, true, false, MatchOption};
+ghost use Rattle.sched.specs.House.{House, some', empty, weight_of, fair_wants, opened, nearer, least_far, ticked};
+ghost use Rattle.sched.specs.Promise.{Comes};
+ghost use Rattle.sched.specs.Stores.{Reads, EmptyFrom, place_of, task_place, owner_of, StandsBeyond, FairlyOf, made_at};
+ghost use Rattle.sched.specs.Begun.{Wanting, StandsAt, Begins, Begun, LeastHas, Passing};
+ghost use Rattle.sched.specs.declared.tasks.Slot.TheVariants as slot;
+
 use crate::class::Class;
 use crate::promise::Promise;
 use crate::tasks::Tasks;
@@ -32,7 +30,7 @@ pub struct Fair {
 
 impl Fair {
     pub fn new() -> Fair
-        ensures { λ r. ⌜ FairlyOf r empty ⌝ }
+        ensures { FairlyOf result empty }
     {
         let start = Position::start(Weight::one());
         Fair {
@@ -45,7 +43,7 @@ impl Fair {
 
     // A new task at a place has nothing from whoever was there before.
     pub fn made(&mut self, i: TaskId, promise: Promise)
-        ensures { λ _. ⌜ ((h : House) → FairlyOf (now (self .entry)) h → FairlyOf (now (self .exit)) (madeAt (i .index) promise h)) ⌝ }
+        ensures { (h : House) → FairlyOf self.old h → FairlyOf self.new (made_at i.index promise h) }
     {
         self.positions[i.index()] = self.beginning(promise);
         self.wanted[i.index()] = false;
@@ -53,7 +51,7 @@ impl Fair {
 
     // Who comes back is brought to the mark; then the mark moves up to the least far that wants the tick.
     pub fn begin(&mut self, tasks: &Tasks, wants: &Wants)
-        ensures { λ _. ⌜ ((h : House) → Comes h → EmptyFrom (now (tasks .entry) .tops) h → Reads placeOf slot.Free (now (tasks .entry) .slots) (h .place) → Wanting (now (wants .entry) .flags) h → FairlyOf (now (self .entry)) h → Begun (now (self .exit)) h) ⌝ }
+        ensures { (h : House) → Comes h → EmptyFrom tasks.now.tops h → Reads place_of slot.Free tasks.now.slots h.place → Wanting wants.now.flags h → FairlyOf self.old h → Begun self.new h }
     {
         self.least = None;
         for k in 0..tasks.fair_top() {
@@ -66,7 +64,7 @@ impl Fair {
 
     // The tick passes: a fair task whose it was goes one part on.
     pub fn pass(&mut self, tasks: &Tasks, whose: Option<TaskId>)
-        ensures { λ _. ⌜ ((h : House) → Comes h → Reads placeOf slot.Free (now (tasks .entry) .slots) (h .place) → LeastHas h whose → Begun (now (self .entry)) h → FairlyOf (now (self .exit)) (ticked (opened h) (ownerOf whose))) ⌝ }
+        ensures { (h : House) → Comes h → Reads place_of slot.Free tasks.now.slots h.place → LeastHas h whose → Begun self.old h → FairlyOf self.new (ticked (opened h) (owner_of whose)) }
     {
         if let Some(i) = whose {
             if tasks.slot(i).is_fair() {
@@ -78,7 +76,7 @@ impl Fair {
 
     // A new fair task begins one part beyond the mark.
     fn beginning(&self, promise: Promise) -> Position
-        ensures { λ r. ⌜ ((base w : ℕ) → weightOf (taskPlace promise) ≡ w → 0 < w → now (self .entry) .mark .whole < 1024 → StandsBeyond base w (now (self .entry) .mark) r) ⌝ }
+        ensures { (base w : ℕ) → weight_of (task_place promise) ≡ w → 0 < w → self.now.mark.whole < 1024 → StandsBeyond base w self.now.mark result }
     {
         match promise {
             Promise::Reserved(_) => Position::start(Weight::one()),
@@ -89,7 +87,7 @@ impl Fair {
 
     // One place, at which a fair task wants the tick or none does.
     fn ask(&mut self, i: TaskId, asks: bool)
-        ensures { λ _. ⌜ ((base : ℕ) (h : House) → Comes h → asks ≡ fairWants (opened h) (i .index) → Begins base (i .index) (now (self .entry)) h → Begins base (i .index + 1) (now (self .exit)) h) ⌝ }
+        ensures { (base : ℕ) (h : House) → Comes h → asks ≡ fair_wants (opened h) i.index → Begins base i.index self.old h → Begins base (i.index + 1) self.new h }
     {
         if asks {
             self.join(i);
@@ -100,7 +98,7 @@ impl Fair {
 
     // A fair task wants the tick.
     fn join(&mut self, i: TaskId)
-        ensures { λ _. ⌜ ((base : ℕ) (h : House) → Comes h → fairWants (opened h) (i .index) ≡ true → Begins base (i .index) (now (self .entry)) h → Begins base (i .index + 1) (now (self .exit)) h) ⌝ }
+        ensures { (base : ℕ) (h : House) → Comes h → fair_wants (opened h) i.index ≡ true → Begins base i.index self.old h → Begins base (i.index + 1) self.new h }
     {
         let position = self.joined(i);
         if self.is_nearer(position) {
@@ -112,7 +110,7 @@ impl Fair {
 
     // One that didn't want the last tick and is behind the mark is brought to it: who rests keeps nothing for later.
     fn joined(&self, i: TaskId) -> Position
-        ensures { λ r. ⌜ ((base : ℕ) (h : House) → Comes h → fairWants (opened h) (i .index) ≡ true → Begins base (i .index) (now (self .entry)) h → StandsAt base (i .index) h r) ⌝ }
+        ensures { (base : ℕ) (h : House) → Comes h → fair_wants (opened h) i.index ≡ true → Begins base i.index self.now h → StandsAt base i.index h result }
     {
         let position = self.positions[i.index()];
         if !self.wanted[i.index()] && position.is_behind(self.mark) {
@@ -123,7 +121,7 @@ impl Fair {
 
     // Whether a position is behind that of the least far so far.
     fn is_nearer(&self, position: Position) -> bool
-        ensures { λ r. ⌜ ((base i : ℕ) (h : House) → StandsAt base i h position → Begins base i (now (self .entry)) h → BySome (now (self .entry) .least) (r ≡ true) (λ j. r ≡ nearer (opened h) i (j .index))) ⌝ }
+        ensures { (base i : ℕ) (h : House) → StandsAt base i h position → Begins base i self.now h → MatchOption self.now.least (result ≡ true) (λ j. result ≡ nearer (opened h) i j.index) }
     {
         match self.least {
             Some(j) => position.is_behind(self.positions[j.index()]),
@@ -133,7 +131,7 @@ impl Fair {
 
     // The mark moves up to the least far that wants, and never back.
     fn raise_mark(&mut self)
-        ensures { λ _. ⌜ ((base : ℕ) (h : House) → Comes h → Begins base 64 (now (self .entry)) h → Begun (now (self .exit)) h) ⌝ }
+        ensures { (base : ℕ) (h : House) → Comes h → Begins base 64 self.old h → Begun self.new h }
     {
         if let Some(i) = self.least {
             let position = self.positions[i.index()];
@@ -145,7 +143,7 @@ impl Fair {
 
     // The tick was a fair task's: one part on.
     fn go_on(&mut self, i: TaskId)
-        ensures { λ _. ⌜ ((h : House) → Comes h → leastFar (opened h) (i .index) ≡ true → Begun (now (self .entry)) h → Passing (now (self .exit)) (ticked (opened h) (suc (i .index)))) ⌝ }
+        ensures { (h : House) → Comes h → least_far (opened h) i.index ≡ true → Begun self.old h → Passing self.new (ticked (opened h) (suc i.index)) }
     {
         let position = self.positions[i.index()];
         self.positions[i.index()] = position.advance();
@@ -153,7 +151,7 @@ impl Fair {
 
     // Only distances to the mark matter, so the same whole number is taken off all.
     fn keep_low(&mut self)
-        ensures { λ _. ⌜ ((h : House) → Passing (now (self .entry)) h → FairlyOf (now (self .exit)) h) ⌝ }
+        ensures { (h : House) → Passing self.old h → FairlyOf self.new h }
     {
         let by = self.mark.whole();
         if by < FAR {
@@ -167,12 +165,12 @@ impl Fair {
     }
 }
 
-pub impl Class for Fair as FairClass {
-    ghost stands = { λ f h. BySome (f .least) (some' 64 (fairWants h) ≡ false) (λ i. leastFar h (i .index) ≡ true) };
+impl Class for Fair {
+    ghost stands = { λ f h. MatchOption f.least (some' 64 (fair_wants h) ≡ false) (λ i. least_far h i.index ≡ true) };
 
-    ghost asks = { fairWants };
+    ghost asks = { fair_wants };
 
-    ghost owed = { λ h i. leastFar h i ≡ true };
+    ghost owed = { λ h i. least_far h i ≡ true };
 
     fn candidate(&self, _tasks: &Tasks, _wants: &Wants) -> Option<TaskId> {
         self.least

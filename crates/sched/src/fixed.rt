@@ -1,22 +1,19 @@
 // Fixed tasks: by rank, and within a rank in turn.
-ghost use mathlib.Core.Path.{_≡_};
-ghost use mathlib.Core.Bool.{false};
-ghost use mathlib.Core.List.{List, [], _∷_, _++_};
-ghost use Prim.Native.Nat.{ℕ, _<_};
-ghost use Rattle·queues.specs.Rings.{Holds};
-ghost use Rattle·sched·specs.House.{House, Place, empty, isFixed, without, put, inTurn, rankWants};
-ghost use Rattle·sched·specs.Promise.{times};
-ghost use Rattle·sched·specs.Stores.{TurnOf, ownerOf, taskPlace};
-ghost use Rattle·sched·specs.Midtick.{WantsOf, asking, fixedWants, FirstInTurn};
-ghost use Rattle·sched·specs.Turns.{OnceInTurn, turnAfter};
+ghost use Rattle.std.specs.Prelude.{◌≡◌, ℕ, ◌<◌, false, List, [], ◌∷◌, ◌++◌};
+ghost use Rattle.queues.specs.Rings.{Holds};
+ghost use Rattle.sched.specs.House.{House, Place, empty, is_fixed, without, put, in_turn, rank_wants};
+ghost use Rattle.sched.specs.Promise.{times};
+ghost use Rattle.sched.specs.Stores.{TurnOf, owner_of, task_place};
+ghost use Rattle.sched.specs.Midtick.{WantsOf, asking, fixed_wants, FirstInTurn};
+ghost use Rattle.sched.specs.Turns.{OnceInTurn, turn_after};
+
 use crate::class::Class;
 use crate::promise::Promise;
 use crate::tasks::Tasks;
 use crate::wants::Wants;
 use quantities::ids::TaskId;
 use quantities::promises::Rank;
-use queues::QueueId;
-use queues::Queues;
+use queues::{QueueId, Queues};
 
 #[derive(Drop)]
 pub struct Fixed {
@@ -26,7 +23,7 @@ pub struct Fixed {
 
 impl Fixed {
     pub fn new() -> Fixed
-        ensures { λ r. ⌜ TurnOf r (empty .place) (empty .turn) ⌝ }
+        ensures { TurnOf result empty.place empty.turn }
     {
         Fixed {
             turn: Queues::new(),
@@ -35,7 +32,7 @@ impl Fixed {
 
     // A new fixed task is the last of its rank.
     pub fn made(&mut self, i: TaskId, promise: Promise)
-        ensures { λ _. ⌜ ((place : ℕ → Place) (turn : List ℕ) → TurnOf (now (self .entry)) place turn → times (i .index) turn ≡ 0 → TurnOf (now (self .exit)) (put (i .index) (taskPlace promise) place) (turn ++ (i .index ∷ []))) ⌝ }
+        ensures { (place : ℕ → Place) (turn : List ℕ) → TurnOf self.old place turn → times i.index turn ≡ 0 → TurnOf self.new (put i.index (task_place promise) place) (turn ++ (i.index ∷ [])) }
     {
         match promise {
             Promise::Reserved(_) => {}
@@ -47,14 +44,14 @@ impl Fixed {
     }
 
     pub fn ended(&mut self, i: TaskId)
-        ensures { λ _. ⌜ ((place : ℕ → Place) (turn : List ℕ) (p : Place) → TurnOf (now (self .entry)) place turn → isFixed p ≡ false → TurnOf (now (self .exit)) (put (i .index) p place) (without (i .index) turn)) ⌝ }
+        ensures { (place : ℕ → Place) (turn : List ℕ) (p : Place) → TurnOf self.old place turn → is_fixed p ≡ false → TurnOf self.new (put i.index p place) (without i.index turn) }
     {
         let _removed = self.turn.remove(i);
     }
 
     // A fixed task whose tick it was is the last of its rank, whoever ran in it.
     pub fn pass(&mut self, whose: Option<TaskId>)
-        ensures { λ _. ⌜ ((place : ℕ → Place) (turn : List ℕ) → TurnOf (now (self .entry)) place turn → OnceInTurn place turn → TurnOf (now (self .exit)) place (turnAfter (ownerOf whose) place turn)) ⌝ }
+        ensures { (place : ℕ → Place) (turn : List ℕ) → TurnOf self.old place turn → OnceInTurn place turn → TurnOf self.new place (turn_after (owner_of whose) place turn) }
     {
         match whose {
             Some(i) => {
@@ -66,7 +63,7 @@ impl Fixed {
 
     // The first of a rank that wants the tick.
     fn first_wanting(&self, rank: Rank, wants: &Wants) -> Option<TaskId>
-        ensures { λ r. ⌜ ((f : ℕ → List ℕ) (h : House) → Holds (now (self .entry) .turn) f → WantsOf (now (wants .entry)) h → ownerOf r ≡ inTurn (asking h) (f (rank .value))) ⌝ }
+        ensures { (f : ℕ → List ℕ) (h : House) → Holds self.now.turn f → WantsOf wants.now h → owner_of result ≡ in_turn (asking h) (f rank.value) }
     {
         let mut at = self.turn.front(QueueId::of_rank(rank));
         for k in 0..64usize {
@@ -85,7 +82,7 @@ impl Fixed {
 
     // The same, of the rank of this number, if there is one.
     fn first_of(&self, number: u32, wants: &Wants) -> Option<TaskId>
-        ensures { λ r. ⌜ ((h : House) → TurnOf (now (self .entry)) (h .place) (h .turn) → WantsOf (now (wants .entry)) h → number < 16 → ownerOf r ≡ inTurn (rankWants h number) (h .turn)) ⌝ }
+        ensures { (h : House) → TurnOf self.now h.place h.turn → WantsOf wants.now h → number < 16 → owner_of result ≡ in_turn (rank_wants h number) h.turn }
     {
         match Rank::new(number) {
             Some(rank) => self.first_wanting(rank, wants),
@@ -94,10 +91,10 @@ impl Fixed {
     }
 }
 
-pub impl Class for Fixed as FixedClass {
-    ghost stands = { λ s h. TurnOf s (h .place) (h .turn) × OnceInTurn (h .place) (h .turn) };
+impl Class for Fixed {
+    ghost stands = { λ s h. TurnOf s h.place h.turn × OnceInTurn h.place h.turn };
 
-    ghost asks = { fixedWants };
+    ghost asks = { fixed_wants };
 
     ghost owed = { FirstInTurn };
 

@@ -1,21 +1,14 @@
 // Locks that are held, as a value: they are given back when the value is dropped, the last one first, by the same function as the call.
-ghost use mathlib.Core.Path.{_≡_};
-ghost use mathlib.Core.Bool.{true, false, not};
-ghost use mathlib.Core.List.{[], _∷_};
-ghost use denote.Ref.{name};
-ghost use Rattle·std.specs.Options.{isSome, Cases as BySome};
-ghost use Rattle·sched·specs.House.{House};
-ghost use Rattle·sched·specs.Held.{canTake, concerns, locksOf, HeldAll, Took, Unlocked, Gave, Let, Ticked};
-ghost use Rattle·sched·specs.Stores.{Holds};
+ghost use Rattle.std.specs.Prelude.{◌≡◌, true, false, not, [], ◌∷◌, is_some, MatchOption};
+ghost use Rattle.sched.specs.House.{House};
+ghost use Rattle.sched.specs.Held.{can_take, concerns, locks_of, HeldAll, Took, Unlocked, Gave, Let, Ticked};
+ghost use Rattle.sched.specs.Stores.{Holds};
 
 mod lock_stack;
 
-use crate::Answer;
-use crate::Call;
-use crate::Scheduler;
+use crate::{Answer, Call, Scheduler};
 use lock_stack::LockStack;
-use quantities::ids::LockId;
-use quantities::ids::TaskId;
+use quantities::ids::{LockId, TaskId};
 
 // While it lives nobody else has the scheduler, and it lets nothing through by which its task could come to wait or lose a lock: so it can always give back what it holds.
 // A further lock is one more in the same value, since a guard can't lend on what it was itself lent.
@@ -28,9 +21,9 @@ pub struct Guard<'a> {
 impl<'a> Guard<'a> {
     // It holds nothing yet.
     pub fn new(scheduler: &'a mut Scheduler, i: TaskId) -> Guard<'a>
-        ensures lent { λ r. ⌜ name (r .scheduler) ≡ name (scheduler .entry) ⌝ }
-        ensures same { λ r. ⌜ now (r .scheduler) ≡ now (scheduler .entry) ⌝ }
-        ensures ids { λ r. ⌜ r .task ≡ i ⌝ ∗ ⌜ locksOf (r .locks) ≡ [] ⌝ }
+        ensures lent { result.scheduler.ghost_name ≡ scheduler.entry.ghost_name }
+        ensures same { result.scheduler.now ≡ scheduler.old }
+        ensures ids { (result.task ≡ i) × (locks_of result.locks ≡ []) }
     {
         Guard {
             scheduler,
@@ -41,11 +34,11 @@ impl<'a> Guard<'a> {
 
     // The lock is the task's, or false if it isn't to be had at once: then nothing has changed.
     pub fn lock(&mut self, m: LockId) -> bool
-        ensures lent { λ _. ⌜ name (now (self .exit) .scheduler) ≡ name (now (self .entry) .scheduler) ⌝ }
-        ensures ids { λ _. ⌜ now (self .exit) .task ≡ now (self .entry) .task ⌝ }
-        ensures value { λ r. ⌜ ((h : House) → Holds (now (now (self .entry) .scheduler)) h → HeldAll h (now (self .entry) .task .index) (locksOf (now (self .entry) .locks)) → r ≡ canTake h (now (self .entry) .task .index) (m .index)) ⌝ }
-        ensures taken { λ r. ⌜ (r ≡ true → (locksOf (now (self .exit) .locks) ≡ m .index ∷ locksOf (now (self .entry) .locks)) × Took (now (now (self .entry) .scheduler)) (now (now (self .exit) .scheduler)) (now (self .entry) .task .index) (m .index)) ⌝ }
-        ensures refused { λ r. ⌜ (r ≡ false → (now (self .exit) .locks ≡ now (self .entry) .locks) × (now (now (self .exit) .scheduler) ≡ now (now (self .entry) .scheduler))) ⌝ }
+        ensures lent { self.new.scheduler.ghost_name ≡ self.old.scheduler.ghost_name }
+        ensures ids { self.new.task ≡ self.old.task }
+        ensures value { (h : House) → Holds self.old.scheduler.now h → HeldAll h self.old.task.index (locks_of self.old.locks) → result ≡ can_take h self.old.task.index m.index }
+        ensures taken { result ≡ true → (locks_of self.new.locks ≡ m.index ∷ locks_of self.old.locks) × Took self.old.scheduler.now self.new.scheduler.now self.old.task.index m.index }
+        ensures refused { result ≡ false → (self.new.locks ≡ self.old.locks) × (self.new.scheduler.now ≡ self.old.scheduler.now) }
     {
         let i = self.task;
         if !self.locks.has_room() {
@@ -61,9 +54,9 @@ impl<'a> Guard<'a> {
 
     // The lock that it took last is given back. Its number, or None if it holds nothing.
     pub fn unlock(&mut self) -> Option<u32>
-        ensures lent { λ _. ⌜ name (now (self .exit) .scheduler) ≡ name (now (self .entry) .scheduler) ⌝ }
-        ensures ids { λ _. ⌜ now (self .exit) .task ≡ now (self .entry) .task ⌝ }
-        ensures given { λ r. ⌜ BySome r ((locksOf (now (self .entry) .locks) ≡ []) × (now (self .exit) .locks ≡ now (self .entry) .locks) × (now (now (self .exit) .scheduler) ≡ now (now (self .entry) .scheduler))) (λ m. (locksOf (now (self .entry) .locks) ≡ m ∷ locksOf (now (self .exit) .locks)) × Gave (now (now (self .entry) .scheduler)) (now (now (self .exit) .scheduler)) (now (self .entry) .task .index) (m ∷ [])) ⌝ }
+        ensures lent { self.new.scheduler.ghost_name ≡ self.old.scheduler.ghost_name }
+        ensures ids { self.new.task ≡ self.old.task }
+        ensures given { MatchOption result ((locks_of self.old.locks ≡ []) × (self.new.locks ≡ self.old.locks) × (self.new.scheduler.now ≡ self.old.scheduler.now)) (λ m. (locks_of self.old.locks ≡ m ∷ locks_of self.new.locks) × Gave self.old.scheduler.now self.new.scheduler.now self.old.task.index (m ∷ [])) }
     {
         let i = self.task;
         let Some(m) = self.locks.pop() else {
@@ -75,10 +68,10 @@ impl<'a> Guard<'a> {
 
     // A call of others, or None if it concerns the guard's own task.
     pub fn call(&mut self, c: Call) -> Option<Answer>
-        ensures lent { λ _. ⌜ name (now (self .exit) .scheduler) ≡ name (now (self .entry) .scheduler) ⌝ }
-        ensures ids { λ _. ⌜ now (self .exit) .task ≡ now (self .entry) .task ⌝ ∗ ⌜ now (self .exit) .locks ≡ now (self .entry) .locks ⌝ }
-        ensures lets { λ r. ⌜ isSome r ≡ not (concerns (now (self .entry) .task .index) c) ⌝ }
-        ensures answered { λ r. ⌜ BySome r (now (now (self .exit) .scheduler) ≡ now (now (self .entry) .scheduler)) (λ a. Let (now (now (self .entry) .scheduler)) (now (now (self .exit) .scheduler)) (now (self .entry) .task .index) c a) ⌝ }
+        ensures lent { self.new.scheduler.ghost_name ≡ self.old.scheduler.ghost_name }
+        ensures ids { (self.new.task ≡ self.old.task) × (self.new.locks ≡ self.old.locks) }
+        ensures lets { is_some result ≡ not (concerns self.old.task.index c) }
+        ensures answered { MatchOption result (self.new.scheduler.now ≡ self.old.scheduler.now) (λ a. Let self.old.scheduler.now self.new.scheduler.now self.old.task.index c a) }
     {
         if c.concerns(self.task) {
             return None;
@@ -88,9 +81,9 @@ impl<'a> Guard<'a> {
 
     // A tick goes by: whose it is, and who runs in it.
     pub fn pick(&mut self) -> (Option<u32>, u32)
-        ensures lent { λ _. ⌜ name (now (self .exit) .scheduler) ≡ name (now (self .entry) .scheduler) ⌝ }
-        ensures ids { λ _. ⌜ now (self .exit) .task ≡ now (self .entry) .task ⌝ ∗ ⌜ now (self .exit) .locks ≡ now (self .entry) .locks ⌝ }
-        ensures ticked { λ r. ⌜ Ticked (now (now (self .entry) .scheduler)) (now (now (self .exit) .scheduler)) (now (self .entry) .task .index) (r .0) (r .1) ⌝ }
+        ensures lent { self.new.scheduler.ghost_name ≡ self.old.scheduler.ghost_name }
+        ensures ids { (self.new.task ≡ self.old.task) × (self.new.locks ≡ self.old.locks) }
+        ensures ticked { Ticked self.old.scheduler.now self.new.scheduler.now self.old.task.index result.0 result.1 }
     {
         self.scheduler.pick()
     }
@@ -98,7 +91,7 @@ impl<'a> Guard<'a> {
 
 impl Drop for Guard<'_> {
     fn drop(self)
-        ensures given { λ _. ⌜ Gave (now (self .entry .scheduler)) (now (self .exit .0)) (self .entry .task .index) (locksOf (self .entry .locks)) ⌝ }
+        ensures given { Gave self.entry.scheduler.now self.exit.0.now self.entry.task.index (locks_of self.entry.locks) }
     {
         let i = self.task;
         let locks = self.locks;
@@ -113,7 +106,7 @@ impl Drop for Guard<'_> {
 
 impl Scheduler {
     fn unlock_all(&mut self, i: TaskId, locks: LockStack)
-        ensures { λ _. ⌜ Unlocked (now (self .entry)) (now (self .exit)) (i .index) (locksOf locks) ⌝ }
+        ensures { Unlocked self.old self.new i.index (locks_of locks) }
     {
         let mut left = locks;
         while let Some(m) = left.pop() {

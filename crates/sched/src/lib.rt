@@ -1,14 +1,13 @@
 // Whoever calls and runs, the scheduler, and the hours between them.
-ghost use mathlib.Core.Path.{_≡_};
-ghost use mathlib.Core.Bool.{true, false};
-ghost use Prim.Native.Nat.{ℕ, suc, _<_, _≤_, _+_};
-ghost use lib.Dec.{T};
-ghost use Rattle·sched·specs.House.{House, empty, calls, runner, mayRun, after, numberOf, goesOn'};
-ghost use Rattle·sched·specs.Promise.{NoRings, SharesFit, RowsStand, NearEachOther};
-ghost use Rattle·sched·specs.Windows.{WindowsWellFormed};
-ghost use Rattle·sched·specs.Policy.{QuotasHad};
-ghost use Rattle·sched·specs.Refusals.{isNo};
-ghost use Rattle·sched·specs.Stores.{Holds, Locked, ownerOf};
+#![tactic(auto)]
+
+ghost use Rattle.std.specs.Prelude.{◌≡◌, ℕ, suc, ◌+◌, ◌<◌, ◌≤◌, true, false, T};
+ghost use Rattle.sched.specs.House.{House, empty, calls, runner, may_run, after, number_of, goes_on'};
+ghost use Rattle.sched.specs.Promise.{NoRings, SharesFit, RowsStand, NearEachOther};
+ghost use Rattle.sched.specs.Windows.{WindowsWellFormed};
+ghost use Rattle.sched.specs.Policy.{QuotasHad};
+ghost use Rattle.sched.specs.Refusals.{is_no};
+ghost use Rattle.sched.specs.Stores.{Holds, Locked, owner_of};
 
 mod calls;
 mod class;
@@ -73,15 +72,15 @@ pub trait World {
     ghost left: { Self → ℕ };
 
     fn next(&mut self) -> Next
-        ensures { λ r. ⌜ house (now (self .exit)) ≡ house (now (self .entry)) ⌝ ∗ ⌜ (T (goesOn' r) → 0 < left (now (self .exit))) ⌝ };
+        ensures { (house self.new ≡ house self.old) × ((T (goes_on' result) → 0 < left self.new)) };
 
     fn told(&mut self, c: Call, a: Answer)
-        requires { ⌜ 0 < left (now self) ⌝ ∗ ⌜ a ≡ calls c (house (now self)) .answer ⌝ }
-        ensures { λ _. ⌜ house (now (self .exit)) ≡ calls c (house (now (self .entry))) .house ⌝ ∗ ⌜ left (now (self .exit)) + 1 ≡ left (now (self .entry)) ⌝ };
+        requires { (0 < left self.old) × (a ≡ (calls c (house self.old)).answer) }
+        ensures { (house self.new ≡ (calls c (house self.old)).house) × (left self.new + 1 ≡ left self.old) };
     // the tick is whose's, or nobody's, and runs runs in it
     fn runs(&mut self, whose: Option<u32>, runs: u32)
-        requires { ⌜ 0 < left (now self) ⌝ ∗ ⌜ T (mayRun (house (now self)) whose runs) ⌝ }
-        ensures { λ _. ⌜ house (now (self .exit)) ≡ after (house (now (self .entry))) whose ⌝ ∗ ⌜ left (now (self .exit)) + 1 ≡ left (now (self .entry)) ⌝ };
+        requires { (0 < left self.old) × (T (may_run (house self.old) whose runs)) }
+        ensures { (house self.new ≡ after (house self.old) whose) × (left self.new + 1 ≡ left self.old) };
 }
 
 // What the scheduler knows: who is there and awake, the locks, and what each kind of promise keeps of its own.
@@ -97,7 +96,7 @@ pub struct Scheduler {
 impl Scheduler {
     // No task, no lock held.
     pub fn new() -> Scheduler
-        ensures { λ r. ⌜ Holds r empty ⌝ }
+        ensures { Holds result empty }
     {
         Scheduler {
             tasks: Tasks::new(),
@@ -110,8 +109,8 @@ impl Scheduler {
 
     // A call, and its answer: the rules' own, with the house as they leave it. Turned away, a call changes nothing.
     pub fn call(&mut self, c: Call) -> Answer
-        ensures answered { λ r. ⌜ ((h : House) → Holds (now (self .entry)) h → (r ≡ calls c h .answer) × Holds (now (self .exit)) (calls c h .house)) ⌝ }
-        ensures refused { λ r. ⌜ (isNo r ≡ true → now (self .exit) ≡ now (self .entry)) ⌝ }
+        ensures answered { (h : House) → Holds self.old h → (result ≡ (calls c h).answer) × Holds self.new (calls c h).house }
+        ensures refused { is_no result ≡ true → self.new ≡ self.old }
     {
         match c {
             Call::Make(kind) => self.make(kind),
@@ -125,7 +124,7 @@ impl Scheduler {
 
     // Whose the next tick is, and who runs in it.
     pub fn pick(&mut self) -> (Option<u32>, u32)
-        ensures { λ r. ⌜ ((h : House) → Holds (now (self .entry)) h → T (mayRun h (r .0) (r .1)) × Holds (now (self .exit)) (after h (r .0))) ⌝ }
+        ensures { (h : House) → Holds self.old h → T (may_run h result.0 result.1) × Holds self.new (after h result.0) }
     {
         let wants = Wants::now(&self.tasks, &self.locks);
         self.begin(&wants);
@@ -136,8 +135,8 @@ impl Scheduler {
 
     // By their numbers: whose the tick is, and its runner.
     fn named(&self, whose: Option<TaskId>) -> (Option<u32>, u32)
-        ensures number { λ r. ⌜ numberOf (r .0) ≡ ownerOf whose ⌝ }
-        ensures runs { λ r. ⌜ ((h : House) (i : ℕ) → Locked (now (self .entry) .locks) h → ownerOf whose ≡ suc i → r .1 ≡ runner 64 h i) ⌝ }
+        ensures number { number_of result.0 ≡ owner_of whose }
+        ensures runs { (h : House) (i : ℕ) → Locked self.now.locks h → owner_of whose ≡ suc i → result.1 ≡ runner 64 h i }
     {
         match whose {
             Some(i) => (Some(i.number()), self.locks.runner(i).number()),
@@ -147,14 +146,14 @@ impl Scheduler {
 }
 
 pub fn scheduler_is_small() -> bool
-    ensures { λ r. ⌜ T r ⌝ }
+    ensures { T result }
 {
     std::mem::size_of::<Scheduler>() <= 65536
 }
 
 // THE MAIN PROMISE. Whatever is called, tick after tick.
 pub fn hours<W: World>(w: &mut W, many: u64)
-    requires begins { ⌜ house (now w) ≡ empty ⌝ }
+    requires begins { W.house w.old ≡ empty }
 {
     let mut s = Scheduler::new();
     let mut n: u64 = 0;
@@ -178,33 +177,33 @@ pub fn hours<W: World>(w: &mut W, many: u64)
 
 // What is promised beside, each a theorem that a contract names.
 pub fn no_rings() -> u8
-    ensures { λ _. ⌜ NoRings ⌝ }
+    ensures { NoRings }
 {
     0
 }
 
 pub fn shares_fit() -> u8
-    ensures { λ _. ⌜ SharesFit ⌝ ∗ ⌜ RowsStand ⌝ }
+    ensures { (SharesFit) × (RowsStand) }
 {
     0
 }
 
 pub fn near_each_other() -> u8
-    ensures { λ _. ⌜ NearEachOther ⌝ }
+    ensures { NearEachOther }
 {
     0
 }
 
 // Windows are open only for a reservation or a kept share, within its period and its quota.
 pub fn windows_well_formed() -> u8
-    ensures { λ _. ⌜ WindowsWellFormed ⌝ }
+    ensures { WindowsWellFormed }
 {
     0
 }
 
 // Whole windows first, the earliest end first: then every window that was whole to its end has had its quota.
 pub fn quotas_had() -> u8
-    ensures { λ _. ⌜ QuotasHad ⌝ }
+    ensures { QuotasHad }
 {
     0
 }

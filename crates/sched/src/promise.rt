@@ -1,15 +1,10 @@
 // What a task was promised, with its numbers known to be good.
-ghost use mathlib.Core.Path.{_≡_};
-ghost use mathlib.Core.Bool.{true, false};
-ghost use Prim.Native.Nat.{_≤_};
-ghost use lib.Dec.{ltb};
-ghost use Rattle·std.specs.Options.{Cases as BySome};
-ghost use Rattle·sched·specs.House.{good, shareOfKind, isReserved, weightOf};
-ghost use Rattle·sched·specs.Stores.{kindOf, taskPlace, reservedPlace};
+ghost use Rattle.std.specs.Prelude.{◌≡◌, ◌≤◌, true, false, MatchOption, nat_lt};
+ghost use Rattle.sched.specs.House.{good, share_of_kind, is_reserved, weight_of};
+ghost use Rattle.sched.specs.Stores.{kind_of, task_place, reserved_place};
+
 use crate::Kind;
-use quantities::promises::Rank;
-use quantities::promises::Reservation;
-use quantities::promises::Weight;
+use quantities::promises::{Rank, Reservation, Weight};
 
 #[derive(Clone, Copy)]
 pub enum Promise {
@@ -21,7 +16,7 @@ pub enum Promise {
 impl Promise {
     // The promise of this kind, if its numbers are good.
     pub fn of(kind: Kind) -> Option<Promise>
-        ensures { λ r. ⌜ BySome r (good kind ≡ false) (λ p. (kindOf p ≡ kind) × (good kind ≡ true)) ⌝ }
+        ensures { MatchOption result (good kind ≡ false) (λ p. (kind_of p ≡ kind) × (good kind ≡ true)) }
     {
         match kind {
             Kind::Reserved(quota, period) => {
@@ -47,7 +42,7 @@ impl Promise {
 
     // The kind of task that it was made to.
     pub fn kind(self) -> Kind
-        ensures { λ r. ⌜ r ≡ kindOf self ⌝ }
+        ensures { result ≡ kind_of self }
     {
         match self {
             Promise::Reserved(reservation) => {
@@ -59,7 +54,7 @@ impl Promise {
     }
 
     pub fn is_fair(self) -> bool
-        ensures { λ r. ⌜ r ≡ ltb 0 (weightOf (taskPlace self)) ⌝ }
+        ensures { result ≡ nat_lt 0 (weight_of (task_place self)) }
     {
         match self {
             Promise::Reserved(_) => false,
@@ -69,7 +64,7 @@ impl Promise {
     }
 
     pub fn reservation(self) -> Option<Reservation>
-        ensures { λ r. ⌜ BySome r (isReserved (taskPlace self) ≡ false) (λ x. taskPlace self ≡ reservedPlace (x .quota) (x .period)) ⌝ }
+        ensures { MatchOption result (is_reserved (task_place self) ≡ false) (λ x. task_place self ≡ reserved_place x.quota x.period) }
     {
         match self {
             Promise::Reserved(reservation) => Some(reservation),
@@ -80,8 +75,8 @@ impl Promise {
 
     // Its part of the processor, in 10,080ths; only a reservation has one.
     pub fn share(self) -> u32
-        ensures value { λ r. ⌜ r ≡ shareOfKind (kindOf self) ⌝ }
-        ensures bound { λ r. ⌜ r ≤ 10080 ⌝ }
+        ensures value { result ≡ share_of_kind (kind_of self) }
+        ensures bound { result ≤ 10080 }
     {
         match self {
             Promise::Reserved(reservation) => reservation.share().parts(),

@@ -1,6 +1,7 @@
 // Why a call is turned away.
-ghost use mathlib.Core.Path.{_≡_};
-ghost use Rattle·sched·specs.Refusals.{refusedBy};
+ghost use Rattle.std.specs.Prelude.{◌≡◌};
+ghost use Rattle.sched.specs.Refusals.{refused_by};
+
 use crate::Answer;
 
 #[derive(Clone, Copy)]
@@ -25,7 +26,7 @@ pub enum Refusal {
 
 impl Refusal {
     pub fn answer(self) -> Answer
-        ensures { λ r. ⌜ r ≡ refusedBy self ⌝ }
+        ensures { result ≡ refused_by self }
     {
         Answer::No(self as u32)
     }

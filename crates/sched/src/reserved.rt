@@ -1,19 +1,14 @@
 // Reserved tasks: a window each, of which the quota is had in time.
-ghost use mathlib.Core.Path.{_≡_};
-ghost use mathlib.Core.Bool.{true, false};
-ghost use Prim.Native.Nat.{ℕ, suc, _+_};
-ghost use Rattle·std.specs.Options.{Cases as BySome};
-ghost use lib.Dec.{eqb};
-ghost use lib.ListN.{getD, set};
-ghost use Rattle·windows.specs.declared.Window.the-variants as window-is;
-ghost use Rattle·sched·specs.House.{House, Place, empty, put, leaves, windowed, passed, freed, ticked, due};
-ghost use Rattle·sched·specs.House.{Window as RulesWindow};
-ghost use Rattle·sched·specs.Stores.{Reads, EmptyFrom, placeOf, windowOf, ownerOf};
-ghost use Rattle·sched·specs.Midtick.{SlotsOf, WantsOf, WindowsOf, SoonestDue, BestBelow, soonerThan};
-ghost use Rattle·sched·specs.declared.tasks.Slot.the-variants as slot-is;
+ghost use Rattle.std.specs.Prelude.{◌≡◌, ℕ, suc, ◌+◌, true, false, MatchOption, ◌==◌, slice_index_or, slice_set};
+ghost use Rattle.windows.specs.declared.Window.TheVariants as window-is;
+ghost use Rattle.sched.specs.House.{House, Place, empty, put, leaves, windowed, passed, freed, ticked, due};
+ghost use Rattle.sched.specs.House.{Window as RulesWindow};
+ghost use Rattle.sched.specs.Stores.{Reads, EmptyFrom, place_of, window_of, owner_of};
+ghost use Rattle.sched.specs.Midtick.{SlotsOf, WantsOf, WindowsOf, SoonestDue, BestBelow, sooner_than};
+ghost use Rattle.sched.specs.declared.tasks.Slot.TheVariants as slot_is;
+
 use crate::class::Class;
-use crate::tasks::Slot;
-use crate::tasks::Tasks;
+use crate::tasks::{Slot, Tasks};
 use crate::wants::Wants;
 use quantities::ids::TaskId;
 use windows::Window;
@@ -25,7 +20,7 @@ pub struct Reserved {
 
 impl Reserved {
     pub fn new() -> Reserved
-        ensures { λ r. ⌜ Reads windowOf window-is.Shut (r .windows) (empty .window) ⌝ }
+        ensures { Reads window_of window-is.Shut result.windows empty.window }
     {
         Reserved {
             windows: [Window::Shut; 64],
@@ -34,13 +29,13 @@ impl Reserved {
 
     // A new task has no window yet.
     pub fn made(&mut self, i: TaskId)
-        ensures { λ _. ⌜ now (self .exit) .windows ≡ set (now (self .entry) .windows) (i .index) window-is.Shut ⌝ }
+        ensures { self.new.windows ≡ slice_set self.old.windows i.index window-is.Shut }
     {
         self.windows[i.index()] = Window::Shut;
     }
 
     pub fn window(&self, i: TaskId) -> Window
-        ensures { λ r. ⌜ r ≡ getD (now (self .entry) .windows) (i .index) window-is.Shut ⌝ }
+        ensures { result ≡ slice_index_or self.now.windows i.index window-is.Shut }
     {
         self.windows[i.index()]
     }
@@ -48,7 +43,7 @@ impl Reserved {
     // What a task leaves at its place when it ends: its share, while a window is open. Were the share free at once, it
     // could be made again and had twice in one window.
     pub fn leaves(&self, i: TaskId, slot: Slot) -> Slot
-        ensures { λ r. ⌜ placeOf r ≡ leaves (windowOf (getD (now (self .entry) .windows) (i .index) window-is.Shut)) (placeOf slot) ⌝ }
+        ensures { place_of result ≡ leaves (window_of (slice_index_or self.now.windows i.index window-is.Shut)) (place_of slot) }
     {
         if !self.window(i).is_open() {
             return Slot::Free;
@@ -61,7 +56,7 @@ impl Reserved {
 
     // Windows open that have to, and stop being whole where the task doesn't want the tick.
     pub fn begin(&mut self, tasks: &Tasks, wants: &Wants)
-        ensures { λ _. ⌜ ((h : House) → EmptyFrom (now (tasks .entry) .tops) h → SlotsOf (now (tasks .entry)) h → WantsOf (now (wants .entry)) h → WindowsOf (now (self .entry)) h → WindowsOf (now (self .exit)) (windowed h)) ⌝ }
+        ensures { (h : House) → EmptyFrom tasks.now.tops h → SlotsOf tasks.now h → WantsOf wants.now h → WindowsOf self.old h → WindowsOf self.new (windowed h) }
     {
         for k in 0..tasks.reserved_top() {
             if let Some(i) = TaskId::new(k) {
@@ -74,7 +69,7 @@ impl Reserved {
 
     // An open window of a task that wants the tick stays as it is: nothing is written for it.
     fn stays(&self, tasks: &Tasks, wants: &Wants, i: TaskId) -> bool
-        ensures { λ r. ⌜ ((h : House) → SlotsOf (now (tasks .entry)) h → WantsOf (now (wants .entry)) h → windowOf (getD (now (self .entry) .windows) (i .index) window-is.Shut) ≡ h .window (i .index) → r ≡ true → windowed h .window (i .index) ≡ h .window (i .index)) ⌝ }
+        ensures { (h : House) → SlotsOf tasks.now h → WantsOf wants.now h → window_of (slice_index_or self.now.windows i.index window-is.Shut) ≡ h.window i.index → result ≡ true → (windowed h).window i.index ≡ h.window i.index }
     {
         match tasks.slot(i).reservation() {
             Some(_) => wants.of(i) && self.window(i).is_open(),
@@ -84,7 +79,7 @@ impl Reserved {
 
     // The window with which a tick begins.
     fn begun(&self, tasks: &Tasks, wants: &Wants, i: TaskId) -> Window
-        ensures { λ r. ⌜ ((h : House) → SlotsOf (now (tasks .entry)) h → WantsOf (now (wants .entry)) h → windowOf (getD (now (self .entry) .windows) (i .index) window-is.Shut) ≡ h .window (i .index) → windowOf r ≡ windowed h .window (i .index)) ⌝ }
+        ensures { (h : House) → SlotsOf tasks.now h → WantsOf wants.now h → window_of (slice_index_or self.now.windows i.index window-is.Shut) ≡ h.window i.index → window_of result ≡ (windowed h).window i.index }
     {
         match tasks.slot(i).reservation() {
             Some(reservation) => self.window(i).begin(wants.of(i), reservation),
@@ -94,10 +89,10 @@ impl Reserved {
 
     // The tick passes: windows have one tick less to go, and a kept place is free when its window is over.
     pub fn pass(&mut self, tasks: &mut Tasks, whose: Option<TaskId>)
-        ensures windows { λ _. ⌜ ((h : House) → EmptyFrom (now (tasks .entry) .tops) h → WindowsOf (now (self .entry)) h → WindowsOf (now (self .exit)) (ticked h (ownerOf whose))) ⌝ }
-        ensures places { λ _. ⌜ ((h : House) → EmptyFrom (now (tasks .entry) .tops) h → WindowsOf (now (self .entry)) h → SlotsOf (now (tasks .entry)) h → SlotsOf (now (tasks .exit)) (ticked h (ownerOf whose))) ⌝ }
-        ensures awake { λ _. ⌜ now (tasks .exit) .awake ≡ now (tasks .entry) .awake ⌝ }
-        ensures tops { λ _. ⌜ now (tasks .exit) .tops ≡ now (tasks .entry) .tops ⌝ }
+        ensures windows { (h : House) → EmptyFrom tasks.old.tops h → WindowsOf self.old h → WindowsOf self.new (ticked h (owner_of whose)) }
+        ensures places { (h : House) → EmptyFrom tasks.old.tops h → WindowsOf self.old h → SlotsOf tasks.old h → SlotsOf tasks.new (ticked h (owner_of whose)) }
+        ensures awake { tasks.new.awake ≡ tasks.old.awake }
+        ensures tops { tasks.new.tops ≡ tasks.old.tops }
     {
         for k in 0..tasks.reserved_top() {
             if let Some(i) = TaskId::new(k) {
@@ -107,10 +102,10 @@ impl Reserved {
     }
 
     fn pass_at(&mut self, tasks: &mut Tasks, i: TaskId, mine: bool)
-        ensures windows { λ _. ⌜ ((w : ℕ → RulesWindow) → Reads windowOf window-is.Shut (now (self .entry) .windows) w → Reads windowOf window-is.Shut (now (self .exit) .windows) (put (i .index) (passed mine (w (i .index))) w)) ⌝ }
-        ensures places { λ _. ⌜ ((w : ℕ → RulesWindow) (p : ℕ → Place) → Reads windowOf window-is.Shut (now (self .entry) .windows) w → Reads placeOf slot-is.Free (now (tasks .entry) .slots) p → Reads placeOf slot-is.Free (now (tasks .exit) .slots) (put (i .index) (freed (passed mine (w (i .index))) (p (i .index))) p)) ⌝ }
-        ensures awake { λ _. ⌜ now (tasks .exit) .awake ≡ now (tasks .entry) .awake ⌝ }
-        ensures tops { λ _. ⌜ now (tasks .exit) .tops ≡ now (tasks .entry) .tops ⌝ }
+        ensures windows { (w : ℕ → RulesWindow) → Reads window_of window-is.Shut self.old.windows w → Reads window_of window-is.Shut self.new.windows (put i.index (passed mine (w i.index)) w) }
+        ensures places { (w : ℕ → RulesWindow) (p : ℕ → Place) → Reads window_of window-is.Shut self.old.windows w → Reads place_of slot_is.Free tasks.old.slots p → Reads place_of slot_is.Free tasks.new.slots (put i.index (freed (passed mine (w i.index)) (p i.index)) p) }
+        ensures awake { tasks.new.awake ≡ tasks.old.awake }
+        ensures tops { tasks.new.tops ≡ tasks.old.tops }
     {
         let window = self.window(i).pass(mine);
         if !window.is_open() {
@@ -121,7 +116,7 @@ impl Reserved {
 
     // It wants the tick and hasn't had its quota.
     fn is_due(&self, tasks: &Tasks, wants: &Wants, i: TaskId) -> bool
-        ensures { λ r. ⌜ ((h : House) → SlotsOf (now (tasks .entry)) h → WantsOf (now (wants .entry)) h → WindowsOf (now (self .entry)) h → r ≡ due h (i .index)) ⌝ }
+        ensures { (h : House) → SlotsOf tasks.now h → WantsOf wants.now h → WindowsOf self.now h → result ≡ due h i.index }
     {
         match tasks.slot(i).reservation() {
             Some(reservation) => wants.of(i) && self.window(i).got() < reservation.quota(),
@@ -130,7 +125,7 @@ impl Reserved {
     }
 
     fn goes_before(&self, i: TaskId, other: Option<TaskId>) -> bool
-        ensures { λ r. ⌜ ((w : ℕ → RulesWindow) → Reads windowOf window-is.Shut (now (self .entry) .windows) w → BySome other (r ≡ true) (λ j. r ≡ soonerThan (w (i .index)) (w (j .index)))) ⌝ }
+        ensures { (w : ℕ → RulesWindow) → Reads window_of window-is.Shut self.now.windows w → MatchOption other (result ≡ true) (λ j. result ≡ sooner_than (w i.index) (w j.index)) }
     {
         match other {
             Some(j) => self.window(i).goes_before(self.window(j)),
@@ -140,7 +135,7 @@ impl Reserved {
 
     // The better of the best so far and whoever is at place k.
     fn better(&self, tasks: &Tasks, wants: &Wants, best: Option<TaskId>, k: u32) -> Option<TaskId>
-        ensures { λ r. ⌜ ((h : House) → SlotsOf (now (tasks .entry)) h → WantsOf (now (wants .entry)) h → WindowsOf (now (self .entry)) h → BestBelow k h best → BestBelow (k + 1) h r) ⌝ }
+        ensures { (h : House) → SlotsOf tasks.now h → WantsOf wants.now h → WindowsOf self.now h → BestBelow k h best → BestBelow (k + 1) h result }
     {
         let Some(i) = TaskId::new(k) else {
             return best;
@@ -154,7 +149,7 @@ impl Reserved {
 
 // Whether the tick is i's.
 fn is_mine(whose: Option<TaskId>, i: TaskId) -> bool
-    ensures { λ r. ⌜ r ≡ eqb (ownerOf whose) (suc (i .index)) ⌝ }
+    ensures { result ≡ (owner_of whose == suc i.index) }
 {
     match whose {
         Some(j) => j.index() == i.index(),
@@ -162,7 +157,7 @@ fn is_mine(whose: Option<TaskId>, i: TaskId) -> bool
     }
 }
 
-pub impl Class for Reserved as ReservedClass {
+impl Class for Reserved {
     ghost stands = { WindowsOf };
 
     ghost asks = { due };

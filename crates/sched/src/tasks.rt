@@ -1,13 +1,9 @@
 // Who is at each place, and whether it is awake.
-ghost use mathlib.Core.Path.{_≡_};
-ghost use mathlib.Core.Bool.{Bool, true, false, _&&_};
-ghost use Prim.Native.Nat.{ℕ, _<_, _≤_, min};
-ghost use lib.Dec.{ltb};
-ghost use lib.ListN.{length, getD, set};
-ghost use Rattle·std.specs.Options.{Cases as BySome};
-ghost use Rattle·sched·specs.House.{House, Place, empty, Nobody, Shut, isNobody, isTask, isReserved, weightOf, shareOf, freed, some', first, sum, put};
-ghost use Rattle·sched·specs.Stores.{placeOf, placeAt, reservedPlace, Reads, EmptyFrom, EmptyAfter};
-ghost use Rattle·sched·specs.declared.tasks.Slot.the-variants as slot;
+ghost use Rattle.std.specs.Prelude.{◌≡◌, ℕ, ◌<◌, ◌≤◌, min, Bool, true, false, ◌&&◌, length, MatchOption, nat_lt, slice_index_or, slice_set};
+ghost use Rattle.sched.specs.House.{House, Place, empty, Nobody, Shut, is_nobody, is_task, is_reserved, weight_of, share_of, freed, some', first, sum, put};
+ghost use Rattle.sched.specs.Stores.{place_of, place_at, reserved_place, Reads, EmptyFrom, EmptyAfter};
+ghost use Rattle.sched.specs.declared.tasks.Slot.TheVariants as slot;
+
 use crate::promise::Promise;
 use crate::tops::Tops;
 use quantities::ids::TaskId;
@@ -23,7 +19,7 @@ pub enum Slot {
 
 impl Slot {
     pub fn is_free(self) -> bool
-        ensures { λ r. ⌜ r ≡ isNobody (placeOf self) ⌝ }
+        ensures { result ≡ is_nobody (place_of self) }
     {
         match self {
             Slot::Free => true,
@@ -33,7 +29,7 @@ impl Slot {
     }
 
     pub fn is_task(self) -> bool
-        ensures { λ r. ⌜ r ≡ isTask (placeOf self) ⌝ }
+        ensures { result ≡ is_task (place_of self) }
     {
         match self {
             Slot::Free => false,
@@ -43,7 +39,7 @@ impl Slot {
     }
 
     pub fn is_fair(self) -> bool
-        ensures { λ r. ⌜ r ≡ ltb 0 (weightOf (placeOf self)) ⌝ }
+        ensures { result ≡ nat_lt 0 (weight_of (place_of self)) }
     {
         match self {
             Slot::Free => false,
@@ -54,7 +50,7 @@ impl Slot {
 
     // The reservation of the task that is here.
     pub fn reservation(self) -> Option<Reservation>
-        ensures { λ r. ⌜ BySome r (isReserved (placeOf self) ≡ false) (λ x. placeOf self ≡ reservedPlace (x .quota) (x .period)) ⌝ }
+        ensures { MatchOption result (is_reserved (place_of self) ≡ false) (λ x. place_of self ≡ reserved_place x.quota x.period) }
     {
         match self {
             Slot::Free => None,
@@ -65,8 +61,8 @@ impl Slot {
 
     // The share that counts in admission: that of the task here, or the one kept.
     pub fn share(self) -> u32
-        ensures value { λ r. ⌜ r ≡ shareOf (placeOf self) ⌝ }
-        ensures bound { λ r. ⌜ r ≤ 10080 ⌝ }
+        ensures value { result ≡ share_of (place_of self) }
+        ensures bound { result ≤ 10080 }
     {
         match self {
             Slot::Free => 0,
@@ -85,9 +81,9 @@ pub struct Tasks {
 
 impl Tasks {
     pub fn new() -> Tasks
-        ensures slots { λ r. ⌜ Reads placeOf slot.Free (r .slots) (λ _. Nobody) ⌝ }
-        ensures awake { λ r. ⌜ Reads (λ (b : Bool). b) false (r .awake) (λ _. false) ⌝ }
-        ensures tops { λ r. ⌜ EmptyFrom (r .tops) empty ⌝ }
+        ensures slots { Reads place_of slot.Free result.slots (λ _. Nobody) }
+        ensures awake { Reads (λ (b : Bool). b) false result.awake (λ _. false) }
+        ensures tops { EmptyFrom result.tops empty }
     {
         Tasks {
             slots: [Slot::Free; 64],
@@ -97,14 +93,14 @@ impl Tasks {
     }
 
     pub fn slot(&self, i: TaskId) -> Slot
-        ensures { λ r. ⌜ r ≡ getD (now (self .entry) .slots) (i .index) slot.Free ⌝ }
+        ensures { result ≡ slice_index_or self.now.slots i.index slot.Free }
     {
         self.slots[i.index()]
     }
 
     // The task of this number, if there is one.
     pub fn find(&self, number: u32) -> Option<TaskId>
-        ensures { λ r. ⌜ BySome r ((ltb number 64 && isTask (placeAt (now (self .entry) .slots) number)) ≡ false) (λ t. (t .index ≡ number) × (isTask (placeAt (now (self .entry) .slots) (t .index)) ≡ true)) ⌝ }
+        ensures { MatchOption result ((nat_lt number 64 && is_task (place_at self.now.slots number)) ≡ false) (λ t. (t.index ≡ number) × (is_task (place_at self.now.slots t.index) ≡ true)) }
     {
         let Some(i) = TaskId::new(number) else {
             return None;
@@ -117,35 +113,35 @@ impl Tasks {
 
     // From here on there never was a task. It is at most 64, and said once more so that no loop tests its places again.
     pub fn top(&self) -> u32
-        ensures { λ r. ⌜ r ≡ min (now (self .entry) .tops .tasks) 64 ⌝ }
+        ensures { result ≡ min self.now.tops.tasks 64 }
     {
         self.tops.tasks.min(64)
     }
 
     // From here on there never was a reserved task.
     pub fn reserved_top(&self) -> u32
-        ensures { λ r. ⌜ r ≡ min (now (self .entry) .tops .reserved) 64 ⌝ }
+        ensures { result ≡ min self.now.tops.reserved 64 }
     {
         self.tops.reserved.min(64)
     }
 
     // From here on there never was a fair task.
     pub fn fair_top(&self) -> u32
-        ensures { λ r. ⌜ r ≡ min (now (self .entry) .tops .fair) 64 ⌝ }
+        ensures { result ≡ min self.now.tops.fair 64 }
     {
         self.tops.fair.min(64)
     }
 
     // From this rank on there never was a fixed task.
     pub fn ranks(&self) -> u32
-        ensures { λ r. ⌜ r ≡ min (now (self .entry) .tops .ranks) 16 ⌝ }
+        ensures { result ≡ min self.now.tops.ranks 16 }
     {
         self.tops.ranks.min(16)
     }
 
     // The lowest free place.
     pub fn free_place(&self) -> Option<TaskId>
-        ensures { λ r. ⌜ BySome r (some' 64 (λ i. isNobody (placeAt (now (self .entry) .slots) i)) ≡ false) (λ t. (some' 64 (λ i. isNobody (placeAt (now (self .entry) .slots) i)) ≡ true) × (t .index ≡ first 64 (λ i. isNobody (placeAt (now (self .entry) .slots) i)))) ⌝ }
+        ensures { MatchOption result (some' 64 (λ i. is_nobody (place_at self.now.slots i)) ≡ false) (λ t. (some' 64 (λ i. is_nobody (place_at self.now.slots i)) ≡ true) × (t.index ≡ first 64 (λ i. is_nobody (place_at self.now.slots i)))) }
     {
         for i in 0..64usize {
             let slot = self.slots[i];
@@ -158,8 +154,8 @@ impl Tasks {
 
     // The shares of all reserved tasks, and those that are kept.
     pub fn shares(&self) -> u32
-        ensures value { λ r. ⌜ ((h : House) → EmptyFrom (now (self .entry) .tops) h → Reads placeOf slot.Free (now (self .entry) .slots) (h .place) → r ≡ sum 64 (λ i. shareOf (h .place i))) ⌝ }
-        ensures bound { λ r. ⌜ r ≤ 645120 ⌝ }
+        ensures value { (h : House) → EmptyFrom self.now.tops h → Reads place_of slot.Free self.now.slots h.place → result ≡ sum 64 (λ i. share_of (h.place i)) }
+        ensures bound { result ≤ 645120 }
     {
         let mut sum: u32 = 0;
         for i in 0..self.reserved_top() {
@@ -171,9 +167,9 @@ impl Tasks {
 
     // A new task at a place, asleep.
     pub fn put(&mut self, i: TaskId, promise: Promise)
-        ensures slots { λ _. ⌜ now (self .exit) .slots ≡ set (now (self .entry) .slots) (i .index) (slot.Task promise) ⌝ }
-        ensures awake { λ _. ⌜ now (self .exit) .awake ≡ set (now (self .entry) .awake) (i .index) false ⌝ }
-        ensures tops { λ _. ⌜ EmptyAfter (now (self .entry) .tops) (now (self .exit) .tops) (i .index) promise ⌝ }
+        ensures slots { self.new.slots ≡ slice_set self.old.slots i.index (slot.Task promise) }
+        ensures awake { self.new.awake ≡ slice_set self.old.awake i.index false }
+        ensures tops { EmptyAfter self.old.tops self.new.tops i.index promise }
     {
         self.slots[i.index()] = Slot::Task(promise);
         self.awake[i.index()] = false;
@@ -182,9 +178,9 @@ impl Tasks {
 
     // The task is gone, and leaves this.
     pub fn clear(&mut self, i: TaskId, left: Slot)
-        ensures slots { λ _. ⌜ now (self .exit) .slots ≡ set (now (self .entry) .slots) (i .index) left ⌝ }
-        ensures awake { λ _. ⌜ now (self .exit) .awake ≡ set (now (self .entry) .awake) (i .index) false ⌝ }
-        ensures tops { λ _. ⌜ now (self .exit) .tops ≡ now (self .entry) .tops ⌝ }
+        ensures slots { self.new.slots ≡ slice_set self.old.slots i.index left }
+        ensures awake { self.new.awake ≡ slice_set self.old.awake i.index false }
+        ensures tops { self.new.tops ≡ self.old.tops }
     {
         self.slots[i.index()] = left;
         self.awake[i.index()] = false;
@@ -192,9 +188,9 @@ impl Tasks {
 
     // A kept place is free again.
     pub fn release(&mut self, i: TaskId)
-        ensures slots { λ _. ⌜ ((f : ℕ → Place) → Reads placeOf slot.Free (now (self .entry) .slots) f → Reads placeOf slot.Free (now (self .exit) .slots) (put (i .index) (freed Shut (f (i .index))) f)) ⌝ }
-        ensures awake { λ _. ⌜ now (self .exit) .awake ≡ now (self .entry) .awake ⌝ }
-        ensures tops { λ _. ⌜ now (self .exit) .tops ≡ now (self .entry) .tops ⌝ }
+        ensures slots { (f : ℕ → Place) → Reads place_of slot.Free self.old.slots f → Reads place_of slot.Free self.new.slots (put i.index (freed Shut (f i.index)) f) }
+        ensures awake { self.new.awake ≡ self.old.awake }
+        ensures tops { self.new.tops ≡ self.old.tops }
     {
         let slot = self.slots[i.index()];
         match slot {
@@ -207,15 +203,15 @@ impl Tasks {
     }
 
     pub fn is_awake(&self, i: TaskId) -> bool
-        ensures { λ r. ⌜ r ≡ getD (now (self .entry) .awake) (i .index) false ⌝ }
+        ensures { result ≡ slice_index_or self.now.awake i.index false }
     {
         self.awake[i.index()]
     }
 
     pub fn set_awake(&mut self, i: TaskId, awake: bool)
-        ensures slots { λ _. ⌜ now (self .exit) .slots ≡ now (self .entry) .slots ⌝ }
-        ensures awake { λ _. ⌜ now (self .exit) .awake ≡ set (now (self .entry) .awake) (i .index) awake ⌝ }
-        ensures tops { λ _. ⌜ now (self .exit) .tops ≡ now (self .entry) .tops ⌝ }
+        ensures slots { self.new.slots ≡ self.old.slots }
+        ensures awake { self.new.awake ≡ slice_set self.old.awake i.index awake }
+        ensures tops { self.new.tops ≡ self.old.tops }
     {
         self.awake[i.index()] = awake;
     }

@@ -1,19 +1,17 @@
 // A tick in three parts: it begins, it is given, it passes.
-ghost use Rattle·sched·specs.House.{House, opened, ticked};
-ghost use Rattle·sched·specs.Stores.{Stores, Holds, ownerOf};
-ghost use Rattle·sched·specs.Midtick.{WantsOf, Midtick, Chosen};
+ghost use Rattle.sched.specs.House.{House, opened, ticked};
+ghost use Rattle.sched.specs.Stores.{Stores, Holds, owner_of};
+ghost use Rattle.sched.specs.Midtick.{WantsOf, Midtick, Chosen};
+
 use crate::Scheduler;
 use crate::class::Class;
-use crate::fair::FairClass;
-use crate::fixed::FixedClass;
-use crate::reserved::ReservedClass;
 use crate::wants::Wants;
 use quantities::ids::TaskId;
 
 impl Scheduler {
     // Windows open, fair tasks come back, the mark moves.
     pub(crate) fn begin(&mut self, wants: &Wants)
-        ensures { λ _. ⌜ ((h : House) → Holds (now (self .entry)) h → WantsOf (now (wants .entry)) h → Midtick (now (self .exit)) h) ⌝ }
+        ensures { (h : House) → Holds self.old h → WantsOf wants.now h → Midtick self.new h }
     {
         self.reserved.begin(&self.tasks, wants);
         self.fair.begin(&self.tasks, wants);
@@ -21,7 +19,7 @@ impl Scheduler {
 
     // The kinds in their order: the first that has a candidate has the tick.
     pub(crate) fn choose(&self, wants: &Wants) -> Option<TaskId>
-        ensures { λ r. ⌜ ((h : House) → Midtick (now (self .entry)) h → WantsOf (now (wants .entry)) h → Chosen h r) ⌝ }
+        ensures { (h : House) → Midtick self.now h → WantsOf wants.now h → Chosen h result }
     {
         if let Some(i) = self.reserved.candidate(&self.tasks, wants) {
             return Some(i);
@@ -34,7 +32,7 @@ impl Scheduler {
 
     // Windows have a tick less to go, kept places become free, the turn and the position move.
     pub(crate) fn pass(&mut self, whose: Option<TaskId>)
-        ensures { λ _. ⌜ ((h : House) → Midtick (now (self .entry)) h → Chosen h whose → Stores (now (self .exit)) (ticked (opened h) (ownerOf whose))) ⌝ }
+        ensures { (h : House) → Midtick self.old h → Chosen h whose → Stores self.new (ticked (opened h) (owner_of whose)) }
     {
         self.fixed.pass(whose);
         self.fair.pass(&self.tasks, whose);

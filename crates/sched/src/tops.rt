@@ -1,7 +1,8 @@
 // How far the places reach that were ever used, by any task and by those of a kind, and the ranks: what every tick does at
 // each place stops there. They only grow; a new task has the lowest free place, so they are small while tasks are few.
-ghost use Rattle·sched·specs.House.{empty};
-ghost use Rattle·sched·specs.Stores.{EmptyFrom, EmptyAfter};
+ghost use Rattle.sched.specs.House.{empty};
+ghost use Rattle.sched.specs.Stores.{EmptyFrom, EmptyAfter};
+
 use crate::promise::Promise;
 use quantities::ids::TaskId;
 
@@ -16,7 +17,7 @@ pub struct Tops {
 
 impl Tops {
     pub fn new() -> Tops
-        ensures { λ r. ⌜ EmptyFrom r empty ⌝ }
+        ensures { EmptyFrom result empty }
     {
         Tops {
             tasks: 0,
@@ -28,7 +29,7 @@ impl Tops {
 
     // A task with this promise is made at i.
     pub fn with(self, i: TaskId, promise: Promise) -> Tops
-        ensures { λ r. ⌜ EmptyAfter self r (i .index) promise ⌝ }
+        ensures { EmptyAfter self result i.index promise }
     {
         let next = i.number() + 1;
         let tasks = self.tasks.max(next);

@@ -1,14 +1,13 @@
 // What a place looks like between two ticks, for whoever shows or explains the house: looking changes nothing.
-ghost use mathlib.Core.Path.{_≡_};
-ghost use Rattle·sched·specs.House.{House};
-ghost use Rattle·sched·specs.Stores.{Holds, ownerOf, placeOf};
-ghost use Rattle·sched·specs.View.{Sees, occupies};
-use crate::Kind;
-use crate::Scheduler;
+ghost use Rattle.std.specs.Prelude.{◌≡◌};
+ghost use Rattle.sched.specs.House.{House};
+ghost use Rattle.sched.specs.Stores.{Holds, owner_of, place_of};
+ghost use Rattle.sched.specs.View.{Sees, occupies};
+
 use crate::tasks::Slot;
 use crate::wants::asks;
-use quantities::ids::LockId;
-use quantities::ids::TaskId;
+use crate::{Kind, Scheduler};
+use quantities::ids::{LockId, TaskId};
 use windows::Window;
 
 // Who is at a place.
@@ -22,7 +21,7 @@ pub enum Occupant {
 
 impl Occupant {
     pub(crate) fn of(slot: Slot) -> Occupant
-        ensures { λ r. ⌜ occupies r ≡ placeOf slot ⌝ }
+        ensures { occupies result ≡ place_of slot }
     {
         match slot {
             Slot::Free => Occupant::Nobody,
@@ -46,7 +45,7 @@ pub struct View {
 impl Scheduler {
     // What a place looks like before the next tick.
     pub fn view(&self, i: TaskId) -> View
-        ensures { λ r. ⌜ ((h : House) → Holds (now (self .entry)) h → Sees h (i .index) r) ⌝ }
+        ensures { (h : House) → Holds self.now h → Sees h i.index result }
     {
         View {
             occupant: Occupant::of(self.tasks.slot(i)),
@@ -59,7 +58,7 @@ impl Scheduler {
 
     // Who owns a lock.
     pub fn owner_of(&self, m: LockId) -> Option<TaskId>
-        ensures { λ r. ⌜ ((h : House) → Holds (now (self .entry)) h → ownerOf r ≡ h .owner (m .index)) ⌝ }
+        ensures { (h : House) → Holds self.now h → owner_of result ≡ h.owner m.index }
     {
         self.locks.owner(m)
     }

@@ -1,9 +1,8 @@
 // Who wants a tick: a task whose runner is awake.
-ghost use mathlib.Core.Path.{_≡_};
-ghost use mathlib.Core.Bool.{false};
-ghost use lib.ListN.{getD};
-ghost use Rattle·sched·specs.House.{House};
-ghost use Rattle·sched·specs.Midtick.{Seen, WantsOf, asking};
+ghost use Rattle.std.specs.Prelude.{◌≡◌, false, slice_index_or};
+ghost use Rattle.sched.specs.House.{House};
+ghost use Rattle.sched.specs.Midtick.{Seen, WantsOf, asking};
+
 use crate::locks::Locks;
 use crate::tasks::Tasks;
 use quantities::ids::TaskId;
@@ -16,7 +15,7 @@ pub struct Wants {
 impl Wants {
     // Settled once at the beginning of a tick; a chain is walked only for a task that waits.
     pub fn now(tasks: &Tasks, locks: &Locks) -> Wants
-        ensures { λ r. ⌜ ((h : House) → Seen (now (tasks .entry)) (now (locks .entry)) h → WantsOf r h) ⌝ }
+        ensures { (h : House) → Seen tasks.now locks.now h → WantsOf result h }
     {
         let mut flags = [false; 64];
         for k in 0..tasks.top() {
@@ -28,7 +27,7 @@ impl Wants {
     }
 
     pub fn of(&self, i: TaskId) -> bool
-        ensures { λ r. ⌜ r ≡ getD (now (self .entry) .flags) (i .index) false ⌝ }
+        ensures { result ≡ slice_index_or self.now.flags i.index false }
     {
         self.flags[i.index()]
     }
@@ -36,7 +35,7 @@ impl Wants {
 
 // Whether a task is there and wants the tick. Its runner doesn't wait, so it is enough that it is awake.
 pub fn asks(tasks: &Tasks, locks: &Locks, i: TaskId) -> bool
-    ensures { λ r. ⌜ ((h : House) → Seen (now (tasks .entry)) (now (locks .entry)) h → r ≡ asking h (i .index)) ⌝ }
+    ensures { (h : House) → Seen tasks.now locks.now h → result ≡ asking h i.index }
 {
     tasks.slot(i).is_task() && tasks.is_awake(locks.runner(i))
 }

@@ -1,16 +1,13 @@
 -- What is drawn after what, way by way.
-use mathlib.Core.Path.{_≡_, refl, ap, _∙_}
-use Prim.Native.Nat.{ℕ, _+_, _*_, _/_, _%_, _^_, _<_, _≤_}
+use Rattle.std.proofs.Common.{◌≡◌, ℕ, ◌+◌, ◌*◌, ◌/◌, ◌%◌, ◌^◌, ◌<◌, ◌≤◌, get_or, refl, ap, ◌∙◌, arith}
 use native.Mathlib.Nat.{mod-add-mod}
-use native.Mathlib.Omega.{arith}
-use lib.ListN.{getD}
-use Rattle·std.proofs.shelf.Tests.{lt-ltb, le-ltb, eq-eqb, ne-eqb}
-use Rattle·sched.specs.declared.Kind.{Kind}
-use Rattle·sched.specs.declared.Kind.the-variants.{Reserved, Fixed, Fair}
-use Rattle·sched.specs.declared.Call.{Call}
-use Rattle·sched.specs.declared.Call.the-variants.{Make, End, Wake, Sleep, Lock, Unlock}
-use Rattle·sched.specs.declared.Next.the-variants.{Calls, Tick}
-use Rattle·script·specs.Any.{Drawn, drawn, moved, below, pick, periods, period, kind, lock, call, step}
+use Rattle.std.proofs.lemmas.Bool.{lt-ltb, le-ltb, eq-eqb, ne_eqb}
+use Rattle.sched.specs.declared.Kind.{Kind}
+use Rattle.sched.specs.declared.Kind.TheVariants.{Reserved, Fixed, Fair}
+use Rattle.sched.specs.declared.Call.{Call}
+use Rattle.sched.specs.declared.Call.TheVariants.{Make, End, Wake, Sleep, Lock, Unlock}
+use Rattle.sched.specs.declared.Next.TheVariants.{Calls, Tick}
+use Rattle.script.specs.Any.{Drawn, drawn, moved, below, pick, periods, period, kind, lock, call, step}
 
 -- wrapping twice is wrapping once
 pub below-is : (x k b : ℕ) → b ≡ k
@@ -26,9 +23,9 @@ module _ (often seldom x d y : ℕ) (e : drawn d y ≡ below 8 x) (r : Drawn ℕ
 
   pub pick-often : (d ≡ 0 → ⊥) → r ≡ below often y → r ≡ pick often seldom x
   unfolding pick
-  pick-often ne h = rw (← e, ne-eqb d 0 ne) h
+  pick-often ne h = rw (← e, ne_eqb d 0 ne) h
 
-pub period-is : (x d y : ℕ) → drawn d y ≡ below 12 x → drawn (getD periods d 0) y ≡ period x
+pub period-is : (x d y : ℕ) → drawn d y ≡ below 12 x → drawn (get_or periods d 0) y ≡ period x
 unfolding period
 period-is x d y e = rw (← e) refl
 
@@ -39,7 +36,7 @@ module _ (x d y : ℕ) (e : drawn d y ≡ below 5 x) where
 
   pub lock-some : (d ≡ 4 → ⊥) → drawn d y ≡ lock x
   unfolding lock
-  lock-some ne = rw (← e, ne-eqb d 4 ne) refl
+  lock-some ne = rw (← e, ne_eqb d 4 ne) refl
 
 module _ (x d y : ℕ) (e : drawn d y ≡ below 4 x) where
   pub kind-reserved : (p z q v : ℕ) → d < 2 → drawn p z ≡ period y → drawn q v ≡ below (p / 2 + 1) z → drawn (Reserved q p) v ≡ kind x
@@ -52,7 +49,7 @@ module _ (x d y : ℕ) (e : drawn d y ≡ below 4 x) where
 
   pub kind-fair : (k z : ℕ) → 2 ≤ d → (d ≡ 2 → ⊥) → drawn k z ≡ pick 4 1100 y → drawn (Fair k) z ≡ kind x
   unfolding kind
-  kind-fair k z l ne f = rw (← e, le-ltb d 2 l, ne-eqb d 2 ne, ← f) refl
+  kind-fair k z l ne f = rw (← e, le-ltb d 2 l, ne_eqb d 2 ne, ← f) refl
 
 module _ (d x : ℕ) where
   pub call-make : (k : Kind) (y : ℕ) → d < 34 → drawn k y ≡ kind x → drawn (Make k) y ≡ call d x
@@ -86,6 +83,6 @@ module _ (x d y : ℕ) (e : drawn d y ≡ below 64 x) where
   unfolding step
   step-tick l = rw (← e, lt-ltb d 32 l) refl
 
-  pub step-call : (k : Call) (z : ℕ) → 32 ≤ d → drawn k z ≡ call d y → drawn (Calls k) z ≡ step x
+  pub step_call : (k : Call) (z : ℕ) → 32 ≤ d → drawn k z ≡ call d y → drawn (Calls k) z ≡ step x
   unfolding step
-  step-call k z l f = rw (← e, le-ltb d 32 l, ← f) refl
+  step_call k z l f = rw (← e, le-ltb d 32 l, ← f) refl

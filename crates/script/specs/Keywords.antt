@@ -1,9 +1,7 @@
 -- How the names of the language are spelled. Assumes nothing.
-use mathlib.Core.List.{List}
-use Prim.Native.Nat.{ℕ}
-use lib.Chars.{codes}
-use Rattle·script·specs.declared.keyword.Keyword.{Keyword}
-use Rattle·script·specs.declared.keyword.Keyword.the-variants as keyword
+use Rattle.std.specs.Prelude.{ℕ, List, codes}
+use Rattle.script.specs.declared.keyword.Keyword.{Keyword}
+use Rattle.script.specs.declared.keyword.Keyword.TheVariants as keyword
 
 abbrev pub spelling : Keyword → List ℕ
 spelling keyword.Had = codes "had"

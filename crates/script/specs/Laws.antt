@@ -1,46 +1,38 @@
 -- Each command in the language's own words, and that it is read so; and that answers can be told apart. Assumes nothing.
-use mathlib.Core.Path.{_≡_}
-use mathlib.Core.Bool.{true}
-use mathlib.Core.List.{List, _++_}
-use Prim.Native.Nat.{ℕ, _^_, _<_}
-use lib.Chars.{codes}
-use Rattle·std.specs.Written.{decimal}
-use Rattle·std.specs.Options.{isSome}
-use Rattle·std.specs.declared.option.Option.{Option}
-use Rattle·std.specs.declared.option.Option.the-variants.{Some, None}
-use Rattle·sched.specs.declared.Answer.{Answer}
-use Rattle·sched.specs.declared.Answer.the-variants.{Done, Id, No}
-use Rattle·sched.specs.declared.Kind.{Kind}
-use Rattle·sched.specs.declared.Kind.the-variants.{Reserved, Fixed, Fair}
-use Rattle·sched.specs.declared.Call.{Call}
-use Rattle·sched.specs.declared.Call.the-variants.{Make, End, Wake, Sleep, Lock, Unlock}
-use Rattle·script·specs.declared.command.Command.{Command}
-use Rattle·script·specs.declared.command.Command.the-variants.{Call as Calls, Tick, Had, Any}
-use Rattle·script·specs.Grammar.{commandOf}
-use Rattle·script·specs.Text.{answerText, tickText}
+use Rattle.std.specs.Prelude.{◌≡◌, ℕ, ◌^◌, ◌<◌, true, List, ◌++◌, is_some, Some, None, codes, decimal, Option}
+use Rattle.sched.specs.declared.Answer.{Answer}
+use Rattle.sched.specs.declared.Answer.TheVariants.{Done, Id, No}
+use Rattle.sched.specs.declared.Kind.{Kind}
+use Rattle.sched.specs.declared.Kind.TheVariants.{Reserved, Fixed, Fair}
+use Rattle.sched.specs.declared.Call.{Call}
+use Rattle.sched.specs.declared.Call.TheVariants.{Make, End, Wake, Sleep, Lock, Unlock}
+use Rattle.script.specs.declared.command.Command.{Command}
+use Rattle.script.specs.declared.command.Command.TheVariants.{Call as Calls, Tick, Had, Any}
+use Rattle.script.specs.Grammar.{command_of}
+use Rattle.script.specs.Text.{answer_text, tick_text}
 
 -- two numbers with a space between them
-abbrev pub twoNumbers : ℕ → ℕ → List ℕ
-twoNumbers m n = decimal m ++ (codes " " ++ decimal n)
+abbrev pub two_numbers : ℕ → ℕ → List ℕ
+two_numbers m n = decimal m ++ (codes " " ++ decimal n)
 
-unfoldable pub kindText : Kind → List ℕ
-kindText (Reserved q p) = codes "reserved " ++ twoNumbers q p
-kindText (Fixed r) = codes "fixed " ++ decimal r
-kindText (Fair w) = codes "fair " ++ decimal w
+unfoldable pub kind_text : Kind → List ℕ
+kind_text (Reserved q p) = codes "reserved " ++ two_numbers q p
+kind_text (Fixed r) = codes "fixed " ++ decimal r
+kind_text (Fair w) = codes "fair " ++ decimal w
 
-unfoldable pub callText : Call → List ℕ
-callText (Make k) = codes "make " ++ kindText k
-callText (End i) = codes "end " ++ decimal i
-callText (Wake i) = codes "wake " ++ decimal i
-callText (Sleep i) = codes "sleep " ++ decimal i
-callText (Lock i m) = codes "lock " ++ twoNumbers i m
-callText (Unlock i m) = codes "unlock " ++ twoNumbers i m
+unfoldable pub call_text : Call → List ℕ
+call_text (Make k) = codes "make " ++ kind_text k
+call_text (End i) = codes "end " ++ decimal i
+call_text (Wake i) = codes "wake " ++ decimal i
+call_text (Sleep i) = codes "sleep " ++ decimal i
+call_text (Lock i m) = codes "lock " ++ two_numbers i m
+call_text (Unlock i m) = codes "unlock " ++ two_numbers i m
 
-unfoldable pub commandText : Command → List ℕ
-commandText (Calls c) = callText c
-commandText (Tick n) = codes "tick " ++ decimal n
-commandText Had = codes "had"
-commandText (Any s n) = codes "any " ++ twoNumbers s n
+unfoldable pub command_text : Command → List ℕ
+command_text (Calls c) = call_text c
+command_text (Tick n) = codes "tick " ++ decimal n
+command_text Had = codes "had"
+command_text (Any s n) = codes "any " ++ two_numbers s n
 
 -- each number is below 2^32
 abbrev pub KindFits : Kind → Type 0
@@ -64,7 +56,7 @@ CommandFits (Any s n) = (s < 2 ^ 32) × (n < 2 ^ 32)
 
 -- what is written of a command is read as that command
 abbrev pub PrintedCommandsParse : Type 0
-PrintedCommandsParse = (c : Command) → CommandFits c → commandOf (commandText c) ≡ Some c
+PrintedCommandsParse = (c : Command) → CommandFits c → command_of (command_text c) ≡ Some c
 
 abbrev pub AnswerFits : Answer → Type 0
 AnswerFits Done = Unit {0}
@@ -73,7 +65,7 @@ AnswerFits (No n) = n < 2 ^ 32
 
 -- two answers to a call with one text are one answer
 abbrev pub AnswersApart : Type 0
-AnswersApart = (a b : Answer) → AnswerFits a → AnswerFits b → answerText a ≡ answerText b → a ≡ b
+AnswersApart = (a b : Answer) → AnswerFits a → AnswerFits b → answer_text a ≡ answer_text b → a ≡ b
 
 abbrev pub TickFits : Option ℕ → ℕ → Type 0
 TickFits None runs = Unit {0}
@@ -81,4 +73,4 @@ TickFits (Some i) runs = (i < 2 ^ 32) × (runs < 2 ^ 32)
 
 -- two ticks with one text are of one task, and the same runs in them
 abbrev pub TicksApart : Type 0
-TicksApart = (v w : Option ℕ) (r s : ℕ) → TickFits v r → TickFits w s → tickText v r ≡ tickText w s → (v ≡ w) × (isSome v ≡ true → r ≡ s)
+TicksApart = (v w : Option ℕ) (r s : ℕ) → TickFits v r → TickFits w s → tick_text v r ≡ tick_text w s → (v ≡ w) × (is_some v ≡ true → r ≡ s)

@@ -1,14 +1,11 @@
 // The decimal digits of a number.
-ghost use mathlib.Core.Path.{_≡_};
-ghost use Prim.Native.Nat.{_≤_};
-ghost use lib.ListN.{length, drop};
-ghost use Rattle·std.specs.Written.{decimal};
+ghost use Rattle.std.specs.Prelude.{◌≡◌, ◌≤◌, length, drop, decimal};
 
 // Writes them to the end of the buffer, and says where they begin.
 pub fn spell(n: u64, digits: &mut [u8; 20]) -> usize
-    ensures text { λ r. ⌜ drop r (now (digits .exit)) ≡ decimal n ⌝ }
-    ensures within { λ r. ⌜ r ≤ 19 ⌝ }
-    ensures size { λ r. ⌜ length (now (digits .exit)) ≡ 20 ⌝ }
+    ensures text { drop result digits.new ≡ decimal n }
+    ensures within { result ≤ 19 }
+    ensures size { length digits.new ≡ 20 }
 {
     let mut first: usize = 19;
     digits[19] = b'0' + (n % 10) as u8;

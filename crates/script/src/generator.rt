@@ -1,10 +1,8 @@
 // How `any` chooses: numbers drawn one after the other from a seed, and a step made of them. No choice looks at the state.
-ghost use mathlib.Core.Path.{_≡_};
-ghost use Prim.Native.Nat.{_<_};
-ghost use Rattle·script·specs.Any.{drawn, below, pick, period, kind, lock, call, step};
-use sched::Call;
-use sched::Kind;
-use sched::Next;
+ghost use Rattle.std.specs.Prelude.{◌≡◌, ◌<◌};
+ghost use Rattle.script.specs.Any.{drawn, below, pick, period, kind, lock, call, step};
+
+use sched::{Call, Kind, Next};
 
 // Ten periods that there are, and two that there aren't.
 const PERIODS: [u32; 12] = [4, 5, 6, 7, 8, 9, 10, 12, 20, 60, 3, 11];
@@ -16,7 +14,7 @@ pub struct Generator {
 
 impl Generator {
     pub fn new(seed: u32) -> Generator
-        ensures { λ r. ⌜ r .state ≡ seed ⌝ }
+        ensures { result.state ≡ seed }
     {
         Generator {
             state: u64::from(seed),
@@ -25,7 +23,7 @@ impl Generator {
 
     // The next call or tick.
     pub fn next_step(&mut self) -> Next
-        ensures { λ r. ⌜ drawn r (now (self .exit) .state) ≡ step (now (self .entry) .state) ⌝ }
+        ensures { drawn result self.new.state ≡ step self.old.state }
     {
         let number = self.below(64);
         if number < 32 {
@@ -35,7 +33,7 @@ impl Generator {
     }
 
     fn call(&mut self, number: u32) -> Call
-        ensures { λ r. ⌜ drawn r (now (self .exit) .state) ≡ call number (now (self .entry) .state) ⌝ }
+        ensures { drawn result self.new.state ≡ call number self.old.state }
     {
         if number < 34 {
             return Call::Make(self.kind());
@@ -59,14 +57,14 @@ impl Generator {
 
     // One of four locks, or none that there is.
     fn lock(&mut self) -> u32
-        ensures { λ r. ⌜ drawn r (now (self .exit) .state) ≡ lock (now (self .entry) .state) ⌝ }
+        ensures { drawn result self.new.state ≡ lock self.old.state }
     {
         let m = self.below(5);
         if m == 4 { 64 } else { m }
     }
 
     fn kind(&mut self) -> Kind
-        ensures { λ r. ⌜ drawn r (now (self .exit) .state) ≡ kind (now (self .entry) .state) ⌝ }
+        ensures { drawn result self.new.state ≡ kind self.old.state }
     {
         let which = self.below(4);
         if which < 2 {
@@ -81,15 +79,15 @@ impl Generator {
     }
 
     fn period(&mut self) -> u32
-        ensures { λ r. ⌜ drawn r (now (self .exit) .state) ≡ period (now (self .entry) .state) ⌝ }
+        ensures { drawn result self.new.state ≡ period self.old.state }
     {
         PERIODS[self.below(12) as usize]
     }
 
     // Mostly below often, one time in eight below seldom.
     fn pick(&mut self, often: u32, seldom: u32) -> u32
-        requires { ⌜ 0 < often ⌝ ∗ ⌜ 0 < seldom ⌝ }
-        ensures { λ r. ⌜ drawn r (now (self .exit) .state) ≡ pick often seldom (now (self .entry) .state) ⌝ }
+        requires { (0 < often) × (0 < seldom) }
+        ensures { drawn result self.new.state ≡ pick often seldom self.old.state }
     {
         if self.below(8) == 0 {
             self.below(seldom)
@@ -99,11 +97,12 @@ impl Generator {
     }
 
     fn below(&mut self, bound: u32) -> u32
-        requires { ⌜ 0 < bound ⌝ }
-        ensures value { λ r. ⌜ drawn r (now (self .exit) .state) ≡ below bound (now (self .entry) .state) ⌝ }
-        ensures less { λ r. ⌜ r < bound ⌝ }
+        requires { 0 < bound }
+        ensures value { drawn result self.new.state ≡ below bound self.old.state }
+        ensures less { result < bound }
     {
-        self.state = self.state
+        self.state = self
+            .state
             .wrapping_mul(6364136223846793005)
             .wrapping_add(1442695040888963407);
         ((self.state >> 33) % u64::from(bound)) as u32

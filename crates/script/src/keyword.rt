@@ -1,8 +1,6 @@
 // The names of the script language.
-ghost use mathlib.Core.Path.{_≡_};
-ghost use Prim.Native.Nat.{_≤_};
-ghost use lib.ListN.{length};
-ghost use Rattle·script·specs.Keywords.{spelling};
+ghost use Rattle.std.specs.Prelude.{◌≡◌, ◌≤◌, length};
+ghost use Rattle.script.specs.Keywords.{spelling};
 
 #[derive(Clone, Copy)]
 pub enum Keyword {
@@ -23,8 +21,8 @@ pub enum Keyword {
 impl Keyword {
     // Its letters, at most eight.
     pub fn text(self) -> &'static [u8]
-        ensures value { λ r. ⌜ now r ≡ spelling self ⌝ }
-        ensures short { λ r. ⌜ length (now r) ≤ 8 ⌝ }
+        ensures value { result.now ≡ spelling self }
+        ensures short { length result.now ≤ 8 }
     {
         match self {
             Keyword::Had => b"had",

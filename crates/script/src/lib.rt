@@ -1,4 +1,6 @@
 // The script language: a line to a command, an answer to text, and how `any` chooses.
+#![tactic(auto)]
+
 pub mod command;
 mod digits;
 pub mod generator;

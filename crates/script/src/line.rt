@@ -1,5 +1,6 @@
 // A line of a script, taken in byte by byte, however long it is.
-ghost use Prim.Native.Nat.{_<_};
+ghost use Rattle.std.specs.Prelude.{◌<◌};
+
 use crate::word::Word;
 
 mod reading;

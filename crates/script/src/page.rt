@@ -1,5 +1,5 @@
 // Text on its way out: whole lines are gathered, and handed on together.
-ghost use Prim.Native.Nat.{_≤_};
+ghost use Rattle.std.specs.Prelude.{◌≤◌};
 
 mod filling;
 mod handing;

@@ -1,5 +1,6 @@
 // Prints whole lines. Between two of them the page has room for one more, whichever.
-ghost use Prim.Native.Nat.{_≤_};
+ghost use Rattle.std.specs.Prelude.{◌≤◌};
+
 use crate::page::Page;
 
 mod lines;
@@ -7,5 +8,5 @@ mod lines;
 #[derive(Drop)]
 pub struct Printer {
     page: Page,
-    ghost room: { page .len ≤ 63488 },
+    ghost room: { page.len ≤ 63488 },
 }

@@ -1,9 +1,5 @@
 // Where text goes.
-ghost use mathlib.Core.Path.{_≡_};
-ghost use mathlib.Core.Bool.{true};
-ghost use mathlib.Core.List.{List, _++_};
-ghost use Prim.Native.Nat.{ℕ};
-ghost use Rattle·std.specs.Results.{isOk};
+ghost use Rattle.std.specs.Prelude.{◌≡◌, ℕ, true, List, ◌++◌, is_ok};
 
 // Takes what is written. `Err` says that it can't be written any more.
 pub trait Sink {
@@ -11,7 +7,7 @@ pub trait Sink {
     ghost took: { Self → List ℕ → Type 0 };
 
     fn take(&mut self, lines: &[u8]) -> Result<(), Stopped>
-        ensures { λ r. ⌜ (isOk r ≡ true → (xs : List ℕ) → took (now (self .entry)) xs → took (now (self .exit)) (xs ++ now (lines .entry))) ⌝ };
+        ensures { is_ok result ≡ true → (xs : List ℕ) → took self.old xs → took self.new (xs ++ lines.now) };
 }
 
 // The text can't be written any more.

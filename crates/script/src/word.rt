@@ -1,13 +1,10 @@
 // A word of a line, taken in byte by byte: a name of the language, a number, or neither.
-ghost use mathlib.Core.Path.{_≡_};
-ghost use mathlib.Core.List.{List, [], _∷_, _++_};
-ghost use Prim.Native.Nat.{ℕ};
-ghost use lib.Dec.{eqb};
-ghost use lib.ListN.{length};
-ghost use Rattle·std.specs.shelf.Text.{sameBytes};
-ghost use Rattle·script·specs.Grammar.{valueOf, numberOf};
-ghost use Rattle·script·specs.Keywords.{spelling};
-ghost use Rattle·script·specs.Taken.{WordTaken};
+ghost use Rattle.std.specs.Prelude.{◌≡◌, ℕ, List, [], ◌∷◌, ◌++◌, length, ◌==◌};
+ghost use Rattle.std.specs.Str.{bytes_eq};
+ghost use Rattle.script.specs.Grammar.{value_of, number_of};
+ghost use Rattle.script.specs.Keywords.{spelling};
+ghost use Rattle.script.specs.Taken.{WordTaken};
+
 use crate::keyword::Keyword;
 
 // No name of the language is longer.
@@ -25,7 +22,7 @@ pub struct Word {
 
 impl Word {
     pub fn new() -> Word
-        ensures { λ r. ⌜ WordTaken r [] ⌝ }
+        ensures { WordTaken result [] }
     {
         Word {
             text: [0; 8],
@@ -35,14 +32,14 @@ impl Word {
     }
 
     pub fn is_empty(&self) -> bool
-        ensures { λ r. ⌜ ((xs : List ℕ) → WordTaken (now (self .entry)) xs → r ≡ eqb (length xs) 0) ⌝ }
+        ensures { (xs : List ℕ) → WordTaken self.now xs → result ≡ (length xs == 0) }
     {
         self.len == 0
     }
 
     // One byte more.
     pub fn push(&mut self, byte: u8)
-        ensures { λ _. ⌜ ((xs : List ℕ) → WordTaken (now (self .entry)) xs → WordTaken (now (self .exit)) (xs ++ (byte ∷ []))) ⌝ }
+        ensures { (xs : List ℕ) → WordTaken self.old xs → WordTaken self.new (xs ++ (byte ∷ [])) }
     {
         self.value = one_digit_more(self.value, byte);
         if self.len < LONGEST {
@@ -55,7 +52,7 @@ impl Word {
 
     // Whether it is this name.
     pub fn is(&self, keyword: Keyword) -> bool
-        ensures { λ r. ⌜ ((xs : List ℕ) → WordTaken (now (self .entry)) xs → r ≡ sameBytes xs (spelling keyword)) ⌝ }
+        ensures { (xs : List ℕ) → WordTaken self.now xs → result ≡ bytes_eq xs (spelling keyword) }
     {
         let name = keyword.text();
         if self.len != name.len() {
@@ -71,7 +68,7 @@ impl Word {
 
     // The number that it is, if it is one below 2^32; leading zeros are allowed.
     pub fn number(&self) -> Option<u32>
-        ensures { λ r. ⌜ ((xs : List ℕ) → WordTaken (now (self .entry)) xs → r ≡ numberOf xs) ⌝ }
+        ensures { (xs : List ℕ) → WordTaken self.now xs → result ≡ number_of xs }
     {
         if self.len == 0 {
             return None;
@@ -82,7 +79,7 @@ impl Word {
 
 // The number so far with a digit after it, unless that isn't a digit, or is too much.
 fn one_digit_more(value: Option<u32>, byte: u8) -> Option<u32>
-    ensures { λ r. ⌜ ((xs : List ℕ) → value ≡ valueOf xs → r ≡ valueOf (xs ++ (byte ∷ []))) ⌝ }
+    ensures { (xs : List ℕ) → value ≡ value_of xs → result ≡ value_of (xs ++ (byte ∷ [])) }
 {
     if byte < b'0' || byte > b'9' {
         return None;

@@ -1,17 +1,18 @@
 // Plays the script on standard input, and writes the answers to standard output.
+#![tactic(auto)]
+
+use anyhow::anyhow;
 use player::Player;
-use script::sink::Sink;
-use script::sink::Stopped;
-use std::error::AnyError;
+use script::sink::{Sink, Stopped};
 use std::io::Read;
 
 // Standard output.
 #[derive(Drop)]
 struct Output<'a> {
-    rt: &'a LibcRuntime,
+    rt: &'a HostRuntime,
 }
 
-impl Sink for Output<'_> as OutputSink {
+impl Sink for Output<'_> {
     // Nothing is known of what the system writes.
     ghost took = { λ _ _. Unit {0} };
 
@@ -23,11 +24,11 @@ impl Sink for Output<'_> as OutputSink {
     }
 }
 
-fn main(rt: LibcRuntime) -> Result<(), AnyError> {
-    rt.report(play(&rt))
+fn main(rt: HostRuntime) -> anyhow::Result<()> {
+    play(&rt)
 }
 
-fn play(rt: &LibcRuntime) -> Result<(), AnyError> {
+fn play(rt: &HostRuntime) -> anyhow::Result<()> {
     let mut input = rt.stdin();
     let mut buffer = [0u8; 65536];
     let mut output = Output { rt };
@@ -42,9 +43,9 @@ fn play(rt: &LibcRuntime) -> Result<(), AnyError> {
     written(player.finish(&mut output))
 }
 
-fn written(outcome: Result<(), Stopped>) -> Result<(), AnyError> {
+fn written(outcome: Result<(), Stopped>) -> anyhow::Result<()> {
     match outcome {
         Ok(()) => Ok(()),
-        Err(Stopped) => Err("the output can't be written".into()),
+        Err(Stopped) => Err(anyhow!("the output can't be written")),
     }
 }

@@ -1,51 +1,49 @@
 -- Positions in virtual time as plain numbers: f wholes and r parts of the weight o.
 -- The formulas are those by which the scheduler's rules place a fair task.
-use mathlib.Core.Bool.{Bool, cond, _&&_, _||_}
-use Prim.Native.Nat.{ℕ, _+_, _-_, _*_, _/_, _%_, min}
-use lib.Dec.{eqb, ltb}
+use Rattle.std.specs.Prelude.{ℕ, ◌+◌, ◌-◌, ◌*◌, ◌/◌, ◌%◌, min, Bool, cond, ◌&&◌, ◌||◌, ◌==◌, nat_lt}
 
 -- Wholes are counted up to this many, and stay there.
 abbrev pub capped : ℕ → ℕ
 capped f = min f 4294967295
 
 -- Whether the first position is behind the second: fewer wholes, or as many and a lesser rest, compared by products.
-abbrev pub lessFar : (f r o : ℕ) → (g s p : ℕ) → Bool
-lessFar f r o g s p = ltb f g || (eqb f g && ltb (r * p) (s * o))
+abbrev pub less_far : (f r o : ℕ) → (g s p : ℕ) → Bool
+less_far f r o g s p = nat_lt f g || (f == g && nat_lt (r * p) (s * o))
 
 -- A TICK ON: one part, and the last part makes a whole.
 abbrev pub wraps : (r o : ℕ) → Bool
-wraps r o = eqb (r + 1) o
+wraps r o = r + 1 == o
 
-abbrev pub tickedFar : (f r o : ℕ) → ℕ
-tickedFar f r o = cond (wraps r o) (f + 1) f
+abbrev pub ticked_far : (f r o : ℕ) → ℕ
+ticked_far f r o = cond (wraps r o) (f + 1) f
 
-abbrev pub tickedRest : (r o : ℕ) → ℕ
-tickedRest r o = cond (wraps r o) 0 (r + 1)
+abbrev pub ticked_rest : (r o : ℕ) → ℕ
+ticked_rest r o = cond (wraps r o) 0 (r + 1)
 
 -- IN PARTS OF ANOTHER WEIGHT w. The rest, rounded up.
-abbrev pub upRest : (r o w : ℕ) → ℕ
-upRest r o w = (r * w + (o - 1)) / o
+abbrev pub up_rest : (r o w : ℕ) → ℕ
+up_rest r o w = (r * w + (o - 1)) / o
 
 -- Where a task of weight w stands that comes back: at the position, or just beyond.
-abbrev pub joinedFar : (f r o w : ℕ) → ℕ
-joinedFar f r o w = cond (ltb (upRest r o w) w) f (f + 1)
+abbrev pub joined_far : (f r o w : ℕ) → ℕ
+joined_far f r o w = cond (nat_lt (up_rest r o w) w) f (f + 1)
 
-abbrev pub joinedRest : (r o w : ℕ) → ℕ
-joinedRest r o w = cond (ltb (upRest r o w) w) (upRest r o w) 0
+abbrev pub joined_rest : (r o w : ℕ) → ℕ
+joined_rest r o w = cond (nat_lt (up_rest r o w) w) (up_rest r o w) 0
 
 -- Where a task of weight w stands that is made: one part beyond.
-abbrev pub madeParts : (r o w : ℕ) → ℕ
-madeParts r o w = (r * w + (o - 1)) / o + 1
+abbrev pub made_parts : (r o w : ℕ) → ℕ
+made_parts r o w = (r * w + (o - 1)) / o + 1
 
-abbrev pub madeFar : (f r o w : ℕ) → ℕ
-madeFar f r o w = f + madeParts r o w / w
+abbrev pub made_far : (f r o w : ℕ) → ℕ
+made_far f r o w = f + made_parts r o w / w
 
-abbrev pub madeRest : (r o w : ℕ) → ℕ
-madeRest r o w = madeParts r o w % w
+abbrev pub made_rest : (r o w : ℕ) → ℕ
+made_rest r o w = made_parts r o w % w
 
 -- LOWERED by so many wholes: whoever has not come so far stands at 0.
-abbrev pub loweredFar : (f by : ℕ) → ℕ
-loweredFar f by = f - by
+abbrev pub lowered_far : (f by : ℕ) → ℕ
+lowered_far f by = f - by
 
-abbrev pub loweredRest : (f r by : ℕ) → ℕ
-loweredRest f r by = cond (ltb f by) 0 r
+abbrev pub lowered_rest : (f r by : ℕ) → ℕ
+lowered_rest f r by = cond (nat_lt f by) 0 r

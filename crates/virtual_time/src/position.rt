@@ -6,24 +6,23 @@ mod entry;
 mod order;
 mod parts;
 
-ghost use mathlib.Core.Path.{_≡_};
-ghost use Prim.Native.Nat.{_<_};
-ghost use Rattle·virtual_time·specs.Positions.{capped, tickedFar, tickedRest, loweredFar, loweredRest};
+ghost use Rattle.std.specs.Prelude.{◌≡◌, ◌<◌};
+ghost use Rattle.virtual_time.specs.Positions.{capped, ticked_far, ticked_rest, lowered_far, lowered_rest};
 
 #[derive(Clone, Copy)]
 pub struct Position {
     whole: u32,
     rest: u16,
     weight: Weight,
-    ghost proper: { rest < weight .value },
+    ghost proper: { rest < weight.value },
 }
 
 impl Position {
     // Where the time of that weight begins. A mark that no task has set yet is the start of weight one.
     pub fn start(weight: Weight) -> Self
-        ensures whole { λ r. ⌜ r .whole ≡ 0 ⌝ }
-        ensures rest { λ r. ⌜ r .rest ≡ 0 ⌝ }
-        ensures weight { λ r. ⌜ r .weight ≡ weight ⌝ }
+        ensures whole { result.whole ≡ 0 }
+        ensures rest { result.rest ≡ 0 }
+        ensures weight { result.weight ≡ weight }
     {
         Position {
             whole: 0,
@@ -34,9 +33,9 @@ impl Position {
 
     // One part on.
     pub fn advance(self) -> Self
-        ensures whole { λ r. ⌜ r .whole ≡ capped (tickedFar (self .whole) (self .rest) (self .weight .value)) ⌝ }
-        ensures rest { λ r. ⌜ r .rest ≡ tickedRest (self .rest) (self .weight .value) ⌝ }
-        ensures weight { λ r. ⌜ r .weight ≡ self .weight ⌝ }
+        ensures whole { result.whole ≡ capped (ticked_far self.whole self.rest self.weight.value) }
+        ensures rest { result.rest ≡ ticked_rest self.rest self.weight.value }
+        ensures weight { result.weight ≡ self.weight }
     {
         let next = self.rest as u32 + 1;
         if next == self.weight.get() {
@@ -56,9 +55,9 @@ impl Position {
 
     // So many wholes back; whoever has not come so far stands at the start.
     pub fn lowered(self, by: u32) -> Self
-        ensures whole { λ r. ⌜ r .whole ≡ loweredFar (self .whole) by ⌝ }
-        ensures rest { λ r. ⌜ r .rest ≡ loweredRest (self .whole) (self .rest) by ⌝ }
-        ensures weight { λ r. ⌜ r .weight ≡ self .weight ⌝ }
+        ensures whole { result.whole ≡ lowered_far self.whole by }
+        ensures rest { result.rest ≡ lowered_rest self.whole self.rest by }
+        ensures weight { result.weight ≡ self.weight }
     {
         if self.whole < by {
             return Position::start(self.weight);

@@ -1,6 +1,8 @@
 // The life of a reservation's window: it opens, may stop being whole, counts the ticks that were had of it, and is over.
-ghost use mathlib.Core.Path.{_≡_};
-ghost use Rattle·windows·specs.Life.{life, openWith, openKept, passed, gotOf, isOpen, goesBefore};
+#![tactic(auto)]
+
+ghost use Rattle.std.specs.Prelude.{◌≡◌};
+ghost use Rattle.windows.specs.Life.{life, open_with, open_kept, passed, got_of, is_open, goes_before};
 
 pub mod laws;
 mod span;
@@ -19,7 +21,7 @@ impl Window {
     // A tick begins for a task that has the reservation: if it wants the tick, a window opens where there is none;
     // if it doesn't, the window isn't whole any more.
     pub fn begin(self, wants: bool, reservation: Reservation) -> Window
-        ensures { λ r. ⌜ life r ≡ openWith wants (reservation .period) (life self) ⌝ }
+        ensures { life result ≡ open_with wants reservation.period (life self) }
     {
         match self {
             Window::Shut => {
@@ -34,7 +36,7 @@ impl Window {
 
     // A tick begins for the share of a task that is gone: its window isn't whole any more.
     pub fn begin_kept(self) -> Window
-        ensures { λ r. ⌜ life r ≡ openKept (life self) ⌝ }
+        ensures { life result ≡ open_kept (life self) }
     {
         match self {
             Window::Shut => Window::Shut,
@@ -44,7 +46,7 @@ impl Window {
 
     // The tick passes, and counts here if it was this task's.
     pub fn pass(self, mine: bool) -> Window
-        ensures { λ r. ⌜ life r ≡ passed mine (life self) ⌝ }
+        ensures { life result ≡ passed mine (life self) }
     {
         match self {
             Window::Shut => Window::Shut,
@@ -59,7 +61,7 @@ impl Window {
 
     // How many ticks of it were had.
     pub fn got(self) -> u32
-        ensures { λ r. ⌜ r ≡ gotOf (life self) ⌝ }
+        ensures { result ≡ got_of (life self) }
     {
         match self {
             Window::Shut => 0,
@@ -68,7 +70,7 @@ impl Window {
     }
 
     pub fn is_open(self) -> bool
-        ensures { λ r. ⌜ r ≡ isOpen (life self) ⌝ }
+        ensures { result ≡ is_open (life self) }
     {
         match self {
             Window::Shut => false,
@@ -79,7 +81,7 @@ impl Window {
     // Whether this one is to be served before the other: whole ones first, then the earliest end. The end alone isn't
     // enough, since a window that isn't whole any more may end first and take ticks that a whole one needs.
     pub fn goes_before(self, other: Window) -> bool
-        ensures { λ r. ⌜ r ≡ goesBefore (life self) (life other) ⌝ }
+        ensures { result ≡ goes_before (life self) (life other) }
     {
         match self {
             Window::Shut => false,

@@ -1,8 +1,6 @@
 // An open window: how many ticks are left of it, how many were had, and whether its task wanted every one.
-ghost use mathlib.Core.Path.{_≡_};
-ghost use mathlib.Core.Bool.{true, cond, _&&_, _||_, not};
-ghost use Prim.Native.Nat.{_+_, _-_, _<_, _≤_};
-ghost use lib.Dec.{eqb, ltb};
+ghost use Rattle.std.specs.Prelude.{◌≡◌, ◌+◌, ◌-◌, ◌<◌, ◌≤◌, true, not, ◌&&◌, ◌||◌, if◌then◌else◌, ◌==◌, nat_lt};
+
 use quantities::promises::Reservation;
 
 #[derive(Clone, Copy)]
@@ -17,9 +15,9 @@ pub struct Span {
 impl Span {
     // As long as the period, none had yet, and whole.
     pub(crate) fn new(reservation: Reservation) -> Span
-        ensures ends { λ r. ⌜ r .ends ≡ reservation .period ⌝ }
-        ensures got { λ r. ⌜ r .got ≡ 0 ⌝ }
-        ensures whole { λ r. ⌜ r .whole ≡ true ⌝ }
+        ensures ends { result.ends ≡ reservation.period }
+        ensures got { result.got ≡ 0 }
+        ensures whole { result.whole ≡ true }
     {
         Span {
             ends: reservation.period() as u16,
@@ -30,9 +28,9 @@ impl Span {
 
     // Whole only if it was and its task wants the tick.
     pub(crate) fn whole_if(self, wants: bool) -> Span
-        ensures ends { λ r. ⌜ r .ends ≡ self .ends ⌝ }
-        ensures got { λ r. ⌜ r .got ≡ self .got ⌝ }
-        ensures whole { λ r. ⌜ r .whole ≡ self .whole && wants ⌝ }
+        ensures ends { result.ends ≡ self.ends }
+        ensures got { result.got ≡ self.got }
+        ensures whole { result.whole ≡ self.whole && wants }
     {
         Span {
             ends: self.ends,
@@ -43,17 +41,17 @@ impl Span {
 
     // This tick is the last of it.
     pub(crate) fn is_last(self) -> bool
-        ensures { λ r. ⌜ r ≡ eqb (self .ends) 1 ⌝ }
+        ensures { result ≡ (self.ends == 1) }
     {
         self.ends == 1
     }
 
     // One tick less to go, and one more had if it was this task's.
     pub(crate) fn pass(self, mine: bool) -> Span
-        requires { ⌜ 1 < self .ends ⌝ }
-        ensures ends { λ r. ⌜ r .ends ≡ self .ends - 1 ⌝ }
-        ensures got { λ r. ⌜ r .got ≡ cond mine (self .got + 1) (self .got) ⌝ }
-        ensures whole { λ r. ⌜ r .whole ≡ self .whole ⌝ }
+        requires { 1 < self.ends }
+        ensures ends { result.ends ≡ self.ends - 1 }
+        ensures got { result.got ≡ (if mine then self.got + 1 else self.got) }
+        ensures whole { result.whole ≡ self.whole }
     {
         let got = if mine { self.got + 1 } else { self.got };
         Span {
@@ -65,28 +63,28 @@ impl Span {
 
     // How many ticks of it are to come.
     pub fn ends(self) -> u32
-        ensures { λ r. ⌜ r ≡ self .ends ⌝ }
+        ensures { result ≡ self.ends }
     {
         self.ends as u32
     }
 
     // Its task wanted every tick of it until now.
     pub fn is_whole(self) -> bool
-        ensures { λ r. ⌜ r ≡ self .whole ⌝ }
+        ensures { result ≡ self.whole }
     {
         self.whole
     }
 
     // How many ticks of it were had.
     pub fn got(self) -> u32
-        ensures { λ r. ⌜ r ≡ self .got ⌝ }
+        ensures { result ≡ self.got }
     {
         self.got as u32
     }
 
     // Whole ones first, then the earliest end.
     pub(crate) fn goes_before(self, other: Span) -> bool
-        ensures { λ r. ⌜ r ≡ cond (self .whole) (not (other .whole) || ltb (self .ends) (other .ends)) (not (other .whole) && ltb (self .ends) (other .ends)) ⌝ }
+        ensures { result ≡ (if self.whole then not other.whole || nat_lt self.ends other.ends else not other.whole && nat_lt self.ends other.ends) }
     {
         if self.whole != other.whole {
             return self.whole;

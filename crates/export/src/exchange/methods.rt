@@ -1,25 +1,21 @@
 // Making an exchange, and what it hands out and writes.
+ghost use Rattle.std.specs.Prelude.{◌≡◌, ◌<◌, map};
+ghost use Rattle.memory.specs.Played.{Asks};
+ghost use Rattle.export.specs.Exchanged.{room_in, Wrote};
+ghost use Rattle.export.specs.Wire.{step_of, entry_of};
+
 use crate::exchange::Exchange;
-use crate::wire::WireEntry;
-use crate::wire::WireStep;
-use memory::entry::Entry;
-use memory::entry::Step;
+use crate::wire::{WireEntry, WireStep};
+use memory::entry::{Entry, Step};
 use sched::Next;
-ghost use mathlib.Core.Path.{_≡_};
-ghost use Prim.Native.Nat.{_<_};
-ghost use denote.Ref.{name};
-ghost use mathlib.Core.List.{map};
-ghost use Rattle·memory.specs.Played.{Asks};
-ghost use Rattle·export·specs.Exchanged.{roomIn, Wrote};
-ghost use Rattle·export·specs.Wire.{stepOf, entryOf};
 
 impl<'a> Exchange<'a> {
     // To play these steps into this log, from its start.
     pub fn new(steps: &'a [WireStep], log: &'a mut [WireEntry]) -> Exchange<'a>
-        ensures steps { λ r. ⌜ now (r .steps) ≡ now (steps .entry) ⌝ }
-        ensures log { λ r. ⌜ now (r .log) ≡ now (log .entry) ⌝ }
-        ensures used { λ r. ⌜ r .used ≡ 0 ⌝ }
-        ensures lender { λ r. ⌜ name (r .log) ≡ name (log .entry) ⌝ }
+        ensures steps { result.steps.now ≡ steps.now }
+        ensures log { result.log.now ≡ log.old }
+        ensures used { result.used ≡ 0 }
+        ensures lender { result.log.ghost_name ≡ log.entry.ghost_name }
     {
         Exchange {
             steps,
@@ -30,15 +26,15 @@ impl<'a> Exchange<'a> {
 
     // How many entries were written.
     pub fn len(&self) -> usize
-        ensures { λ r. ⌜ r ≡ now (self .entry) .used ⌝ }
+        ensures { result ≡ self.now.used }
     {
         self.used
     }
 
     // The next step, if there is one and room for its entry.
     pub(crate) fn asks(&mut self) -> Next
-        ensures same { λ _. ⌜ now (self .exit) ≡ now (self .entry) ⌝ }
-        ensures asks { λ r. ⌜ Asks (map stepOf (now (now (self .entry) .steps))) (map entryOf (now (now (self .entry) .log))) (now (self .entry) .used) r ⌝ }
+        ensures same { self.new ≡ self.old }
+        ensures asks { Asks (map step_of self.old.steps.now) (map entry_of self.old.log.now) self.old.used result }
     {
         if self.used >= self.steps.len() || self.used >= self.log.len() {
             return Next::Over;
@@ -53,8 +49,8 @@ impl<'a> Exchange<'a> {
 
     // One more entry.
     pub(crate) fn record(&mut self, entry: Entry)
-        requires { ⌜ 0 < roomIn (now self) ⌝ }
-        ensures { λ _. ⌜ Wrote (now (self .entry)) (now (self .exit)) entry ⌝ }
+        requires { 0 < room_in self.old }
+        ensures { Wrote self.old self.new entry }
     {
         let wire = WireEntry::new(entry);
         self.log[self.used] = wire;

@@ -1,16 +1,14 @@
 // The exchange as a world: the house is what was written comes to, and it may go on while there is room.
+ghost use Rattle.export.specs.Exchanged.{house_of, room_in};
+
 use crate::exchange::Exchange;
 use memory::entry::Entry;
-use sched::Answer;
-use sched::Call;
-use sched::Next;
-use sched::World;
-ghost use Rattle·export·specs.Exchanged.{houseOf, roomIn};
+use sched::{Answer, Call, Next, World};
 
-pub impl<'a> World for Exchange<'a> as ExchangeWorld {
-    ghost house = { houseOf };
+impl<'a> World for Exchange<'a> {
+    ghost house = { house_of };
 
-    ghost left = { roomIn };
+    ghost left = { room_in };
 
     fn next(&mut self) -> Next {
         self.asks()

@@ -1,28 +1,27 @@
-use mathlib.Core.Path.{refl, _∙_, subst}
-use borrow.Author.Needs.{needs}
-use Rattle·sched.specs.declared.Scheduler.{Scheduler}
-use Rattle·sched.specs.House.{House}
-use Rattle·sched.specs.Stores.{Holds}
-use Rattle·guards·specs.Sections.{Both}
-use Rattle·guards·proofs.Learned.{index, took-at, gave-at, on-top, both-free}
-use Rattle·guards·proofs.both.Needs as need
+use Rattle.std.proofs.Common.{refl, ◌∙◌, subst, rules}
+use Rattle.sched.specs.declared.Scheduler.{Scheduler}
+use Rattle.sched.specs.House.{House}
+use Rattle.sched.specs.Stores.{Holds}
+use Rattle.guards.specs.Sections.{Both}
+use Rattle.guards.proofs.Learned.{index, took-at, gave_at, on-top, both-free}
+use Rattle.guards.proofs.both.Goals as goal
 
-pub returns : need.returns
+pub returns : goal.returns
 returns c done =
-    let s = c .args .scheduler .now in
-    let g₁ = c .lock .last .self in
-    let g₂ = c .lock-2 .last .self in
-    let t = c .drop-guard-2 .last .self .0 in
-    let i = c .args .i .index in
-    let five = c .in-Some .ensures tt .0 in
-    let six = c .in-Some-new .ensures tt .0 in
-    let first = c .lock .ensures .taken (c .if-not-lock .left) in
-    let second = c .lock-2 .ensures .taken done in
-    let task₀ = c .new-guard .ensures .ids .0 in
-    let task₁ = c .lock .ensures .ids ∙ task₀ in
-    let task₂ = c .lock-2 .ensures .ids ∙ task₁ in
-    let locks = on-top (second .0) six (on-top (first .0) five (c .new-guard .ensures .ids .1)) in
-    subst (λ (x : Scheduler). (h : House) → Holds s h → Both h i x) (search needs) (λ h k. both-free s (g₁ .scheduler .now) (g₂ .scheduler .now) i
-    (took-at (c .new-guard .ensures .same) (index task₀) five (first .1))
-    (took-at refl (index task₁) six (second .1))
-    h k t (gave-at (index task₂) locks (c .drop-guard-2 .ensures .given)))
+    let s = c.args.scheduler.now in
+    let g₁ = c.lock.new.self in
+    let g₂ = c.lock-2.new.self in
+    let t = c.drop-guard-2.new.self.0 in
+    let i = c.args.i.index in
+    let five = c.in-Some.ensures.0 in
+    let six = c.in-Some-new.ensures.0 in
+    let first = c.lock.ensures.taken c.if-not-lock.false in
+    let second = c.lock-2.ensures.taken done in
+    let task₀ = c.new-guard.ensures.ids.0 in
+    let task₁ = c.lock.ensures.ids ∙ task₀ in
+    let task₂ = c.lock-2.ensures.ids ∙ task₁ in
+    let locks = on-top second.0 six (on-top first.0 five c.new-guard.ensures.ids.1) in
+    subst (λ (x : Scheduler). (h : House) → Holds s h → Both h i x) (search rules) (λ h k. both-free s g₁.scheduler.now g₂.scheduler.now i
+    (took-at c.new-guard.ensures.same (index task₀) five first.1)
+    (took-at refl (index task₁) six second.1)
+    h k t (gave_at (index task₂) locks c.drop-guard-2.ensures.given))

@@ -1,23 +1,19 @@
 // Making a recorder over lent slices; what it hands out and writes, in terms of the slices.
-use crate::entry::Entry;
-use crate::entry::Step;
+ghost use Rattle.std.specs.Prelude.{◌≡◌, ◌<◌};
+ghost use Rattle.memory.specs.Recorded.{room_in, Wrote};
+ghost use Rattle.memory.specs.Played.{Asks};
+
+use crate::entry::{Entry, Step};
 use crate::lent::LentRecorder;
-use sched::Answer;
-use sched::Call;
-use sched::Next;
-ghost use mathlib.Core.Path.{_≡_};
-ghost use Prim.Native.Nat.{_<_};
-ghost use denote.Ref.{name};
-ghost use Rattle·memory·specs.Recorded.{roomIn, Wrote};
-ghost use Rattle·memory·specs.Played.{Asks};
+use sched::{Answer, Call, Next};
 
 impl<'a> LentRecorder<'a> {
     // To play this script into this log, from its start.
     pub fn new(script: &'a [Step], log: &'a mut [Entry]) -> LentRecorder<'a>
-        ensures script { λ r. ⌜ now (r .script) ≡ now (script .entry) ⌝ }
-        ensures log { λ r. ⌜ now (r .log) ≡ now (log .entry) ⌝ }
-        ensures used { λ r. ⌜ r .used ≡ 0 ⌝ }
-        ensures lender { λ r. ⌜ name (r .log) ≡ name (log .entry) ⌝ }
+        ensures script { result.script.now ≡ script.now }
+        ensures log { result.log.now ≡ log.old }
+        ensures used { result.used ≡ 0 }
+        ensures lender { result.log.ghost_name ≡ log.entry.ghost_name }
     {
         LentRecorder {
             script,
@@ -28,15 +24,15 @@ impl<'a> LentRecorder<'a> {
 
     // How many entries were written.
     pub fn len(&self) -> usize
-        ensures { λ r. ⌜ r ≡ now (self .entry) .used ⌝ }
+        ensures { result ≡ self.now.used }
     {
         self.used
     }
 
     // The script's next step, if there is one and room for its entry.
     pub fn next(&mut self) -> Next
-        ensures same { λ _. ⌜ now (self .exit) ≡ now (self .entry) ⌝ }
-        ensures asks { λ r. ⌜ Asks (now (now (self .entry) .script)) (now (now (self .entry) .log)) (now (self .entry) .used) r ⌝ }
+        ensures same { self.new ≡ self.old }
+        ensures asks { Asks self.old.script.now self.old.log.now self.old.used result }
     {
         if self.used >= self.script.len() || self.used >= self.log.len() {
             return Next::Over;
@@ -50,24 +46,24 @@ impl<'a> LentRecorder<'a> {
 
     // A call and its answer.
     pub(crate) fn told(&mut self, c: Call, a: Answer)
-        requires { ⌜ 0 < roomIn (now self) ⌝ }
-        ensures { λ _. ⌜ Wrote (now (self .entry)) (now (self .exit)) (Entry.Called c a) ⌝ }
+        requires { 0 < room_in self.old }
+        ensures { Wrote self.old self.new (Entry.Called c a) }
     {
         self.record(Entry::Called(c, a));
     }
 
     // Whose a tick was, and who ran in it.
     pub(crate) fn runs(&mut self, whose: Option<u32>, runs: u32)
-        requires { ⌜ 0 < roomIn (now self) ⌝ }
-        ensures { λ _. ⌜ Wrote (now (self .entry)) (now (self .exit)) (Entry.Ran whose runs) ⌝ }
+        requires { 0 < room_in self.old }
+        ensures { Wrote self.old self.new (Entry.Ran whose runs) }
     {
         self.record(Entry::Ran(whose, runs));
     }
 
     // One more entry.
     fn record(&mut self, entry: Entry)
-        requires { ⌜ 0 < roomIn (now self) ⌝ }
-        ensures { λ _. ⌜ Wrote (now (self .entry)) (now (self .exit)) entry ⌝ }
+        requires { 0 < room_in self.old }
+        ensures { Wrote self.old self.new entry }
     {
         self.log[self.used] = entry;
         self.used += 1;

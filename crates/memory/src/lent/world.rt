@@ -1,15 +1,13 @@
 // The lent recorder as a world: the house is what was written comes to, and it may go on while there is room.
+ghost use Rattle.memory.specs.Recorded.{house_of, room_in};
+
 use crate::lent::LentRecorder;
-use sched::Answer;
-use sched::Call;
-use sched::Next;
-use sched::World;
-ghost use Rattle·memory·specs.Recorded.{houseOf, roomIn};
+use sched::{Answer, Call, Next, World};
 
-pub impl<'a> World for LentRecorder<'a> as LentRecorderWorld {
-    ghost house = { houseOf };
+impl<'a> World for LentRecorder<'a> {
+    ghost house = { house_of };
 
-    ghost left = { roomIn };
+    ghost left = { room_in };
 
     fn next(&mut self) -> Next {
         LentRecorder::next(self)

@@ -1,24 +1,18 @@
 // Making a recorder, what it hands out, and reading what it has recorded.
-use crate::entry::Entry;
-use crate::entry::Step;
-use crate::recorder::ROOM;
-use crate::recorder::Recorder;
+ghost use Rattle.std.specs.Prelude.{◌≡◌, ◌+◌, ◌<◌, ◌≤◌, T, [], ◌∷◌, ◌++◌, length, MatchOption, slice_index_or};
+ghost use Rattle.sched.specs.House.{empty};
+ghost use Rattle.memory.specs.Run.{Run, outcome, allowed, blank};
+ghost use Rattle.memory.specs.Recorded.{script_of, entries_of};
+ghost use Rattle.memory.specs.Played.{Asks};
+
+use crate::entry::{Entry, Step};
+use crate::recorder::{ROOM, Recorder};
 use sched::Next;
-ghost use mathlib.Core.Path.{_≡_};
-ghost use mathlib.Core.List.{[], _∷_, _++_};
-ghost use Prim.Native.Nat.{_+_, _<_, _≤_};
-ghost use lib.Dec.{T};
-ghost use lib.ListN.{length, getD};
-ghost use Rattle·std.specs.Options.{Cases as BySome};
-ghost use Rattle·sched.specs.House.{empty};
-ghost use Rattle·memory·specs.Run.{Run, outcome, allowed, blank};
-ghost use Rattle·memory·specs.Recorded.{scriptOf, entriesOf};
-ghost use Rattle·memory·specs.Played.{Asks};
 
 impl Recorder {
     // With this script, and nothing recorded; none if the script is longer than there is room for.
     pub fn new(script: &[Step]) -> Option<Recorder>
-        ensures { λ r. ⌜ BySome r (1024 < length (now (script .entry))) (λ w. (scriptOf w ≡ now (script .entry)) × (entriesOf w ≡ [])) ⌝ }
+        ensures { MatchOption result (1024 < length script.now) (λ w. (script_of w ≡ script.now) × (entries_of w ≡ [])) }
     {
         if script.len() > ROOM {
             return None;
@@ -37,14 +31,14 @@ impl Recorder {
 
     // How many entries there are.
     pub fn len(&self) -> usize
-        ensures { λ r. ⌜ r ≡ length (entriesOf (now (self .entry))) ⌝ }
+        ensures { result ≡ length (entries_of self.now) }
     {
         self.used
     }
 
     // The entry of this number, from 0.
     pub fn entry(&self, k: usize) -> Option<Entry>
-        ensures { λ r. ⌜ BySome r (length (entriesOf (now (self .entry))) ≤ k) (λ e. (k < length (entriesOf (now (self .entry)))) × (e ≡ getD (entriesOf (now (self .entry))) k blank)) ⌝ }
+        ensures { MatchOption result (length (entries_of self.now) ≤ k) (λ e. (k < length (entries_of self.now)) × (e ≡ slice_index_or (entries_of self.now) k blank)) }
     {
         if k >= self.used {
             return None;
@@ -54,15 +48,15 @@ impl Recorder {
 
     // All entries: a legal run from the empty house.
     pub fn entries(&self) -> &[Entry]
-        ensures value { λ r. ⌜ now r ≡ entriesOf (now (self .entry)) ⌝ }
-        ensures runs { λ r. ⌜ Run empty (now r) (outcome empty (now r)) ⌝ }
+        ensures value { result.now ≡ entries_of self.now }
+        ensures runs { Run empty result.now (outcome empty result.now) }
     {
         &self.log[0..self.used]
     }
 
     // The script's next step, if there is one.
     pub fn asks(&self) -> Next
-        ensures { λ r. ⌜ Asks (scriptOf (now (self .entry))) (now (self .entry) .log) (now (self .entry) .used) r ⌝ }
+        ensures { Asks (script_of self.now) self.now.log self.now.used result }
     {
         if self.used >= self.steps {
             return Next::Over;
@@ -76,10 +70,10 @@ impl Recorder {
 
     // One more entry, which the rules allow.
     pub(super) fn record(&mut self, entry: Entry)
-        requires { ⌜ now self .used < length (now self .log) ⌝ ∗ ⌜ T (allowed (outcome empty (entriesOf (now self))) entry) ⌝ }
-        ensures after { λ _. ⌜ entriesOf (now (self .exit)) ≡ entriesOf (now (self .entry)) ++ (entry ∷ []) ⌝ }
-        ensures used { λ _. ⌜ now (self .exit) .used ≡ now (self .entry) .used + 1 ⌝ }
-        ensures len { λ _. ⌜ length (now (self .exit) .log) ≡ length (now (self .entry) .log) ⌝ }
+        requires { (self.old.used < length self.old.log) × (T (allowed (outcome empty (entries_of self.old)) entry)) }
+        ensures after { entries_of self.new ≡ entries_of self.old ++ (entry ∷ []) }
+        ensures used { self.new.used ≡ self.old.used + 1 }
+        ensures len { length self.new.log ≡ length self.old.log }
     {
         self.log[self.used] = entry;
         self.used += 1;

@@ -1,20 +1,17 @@
 // The recorder as a world: the house is what the log comes to, and it may go on while there is room.
+ghost use Rattle.std.specs.Prelude.{◌-◌, length};
+ghost use Rattle.sched.specs.House.{empty};
+ghost use Rattle.memory.specs.Run.{outcome};
+ghost use Rattle.memory.specs.Recorded.{entries_of};
+
 use crate::entry::Entry;
 use crate::recorder::Recorder;
-use sched::Answer;
-use sched::Call;
-use sched::Next;
-use sched::World;
-ghost use Prim.Native.Nat.{_-_};
-ghost use lib.ListN.{length};
-ghost use Rattle·sched.specs.House.{empty};
-ghost use Rattle·memory·specs.Run.{outcome};
-ghost use Rattle·memory·specs.Recorded.{entriesOf};
+use sched::{Answer, Call, Next, World};
 
-pub impl World for Recorder as RecorderWorld {
-    ghost house = { λ w. outcome empty (entriesOf w) };
+impl World for Recorder {
+    ghost house = { λ w. outcome empty (entries_of w) };
 
-    ghost left = { λ w. length (w .log) - w .used };
+    ghost left = { λ w. length w.log - w.used };
 
     fn next(&mut self) -> Next {
         self.asks()

@@ -1,6 +1,6 @@
 -- The theorem stands in Admission.
-use Rattle·promises·proofs.Admission.{admits}
-use Rattle·promises·proofs.admits.Needs as need
+use Rattle.promises.proofs.Admission.{admits}
+use Rattle.promises.proofs.admits.Goals as goal
 
-pub returns : need.returns
+pub returns : goal.returns
 returns c = admits

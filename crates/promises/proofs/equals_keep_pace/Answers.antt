@@ -1,5 +1,5 @@
-use Rattle·promises·proofs.Nearest.{equals-keep-pace}
-use Rattle·promises·proofs.equals_keep_pace.Needs as need
+use Rattle.promises.proofs.Nearest.{equals-keep-pace}
+use Rattle.promises.proofs.equals_keep_pace.Goals as goal
 
-pub returns : need.returns
+pub returns : goal.returns
 returns c = equals-keep-pace

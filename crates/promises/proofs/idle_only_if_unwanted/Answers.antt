@@ -1,6 +1,6 @@
 -- The theorem stands in Idle.
-use Rattle·promises·proofs.Idle.{idle-only-if-unwanted}
-use Rattle·promises·proofs.idle_only_if_unwanted.Needs as need
+use Rattle.promises.proofs.Idle.{idle-only-if-unwanted}
+use Rattle.promises.proofs.idle_only_if_unwanted.Goals as goal
 
-pub returns : need.returns
+pub returns : goal.returns
 returns c = idle-only-if-unwanted

@@ -1,5 +1,5 @@
-use Rattle·promises·proofs.Turn.{in-turn}
-use Rattle·promises·proofs.in_turn.Needs as need
+use Rattle.promises.proofs.Turn.{in-turn}
+use Rattle.promises.proofs.in_turn.Goals as goal
 
-pub returns : need.returns
+pub returns : goal.returns
 returns c = in-turn

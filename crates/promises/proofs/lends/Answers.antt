@@ -1,6 +1,6 @@
 -- The theorem stands in Lending.
-use Rattle·promises·proofs.Lending.{lends}
-use Rattle·promises·proofs.lends.Needs as need
+use Rattle.promises.proofs.Lending.{lends}
+use Rattle.promises.proofs.lends.Goals as goal
 
-pub returns : need.returns
+pub returns : goal.returns
 returns c = lends

@@ -1,5 +1,5 @@
-use Rattle·sched.proofs.model.Fairness.{nearer-each-other}
-use Rattle·promises·proofs.nearer_each_other.Needs as need
+use Rattle.sched.proofs.model.Fairness.{nearer-each-other}
+use Rattle.promises.proofs.nearer_each_other.Goals as goal
 
-pub returns : need.returns
+pub returns : goal.returns
 returns c = nearer-each-other

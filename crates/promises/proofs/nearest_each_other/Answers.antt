@@ -1,5 +1,5 @@
-use Rattle·promises·proofs.Nearest.{nearest-each-other}
-use Rattle·promises·proofs.nearest_each_other.Needs as need
+use Rattle.promises.proofs.Nearest.{nearest-each-other}
+use Rattle.promises.proofs.nearest_each_other.Goals as goal
 
-pub returns : need.returns
+pub returns : goal.returns
 returns c = nearest-each-other

@@ -1,5 +1,5 @@
-use Rattle·promises·proofs.Quarter.{quarter-left}
-use Rattle·promises·proofs.quarter_left.Needs as need
+use Rattle.promises.proofs.Quarter.{quarter-left}
+use Rattle.promises.proofs.quarter_left.Goals as goal
 
-pub returns : need.returns
+pub returns : goal.returns
 returns c = quarter-left

@@ -1,5 +1,5 @@
-use Rattle·promises·proofs.Reserved.{reserved-has}
-use Rattle·promises·proofs.reserved_has.Needs as need
+use Rattle.promises.proofs.Reserved.{reserved-has}
+use Rattle.promises.proofs.reserved_has.Goals as goal
 
-pub returns : need.returns
+pub returns : goal.returns
 returns c = reserved-has

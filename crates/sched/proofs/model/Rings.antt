@@ -1,94 +1,89 @@
 -- Whatever comes about, rows and owners agree and nobody waits in a ring: every call and every tick keeps `Acyclic`.
-use mathlib.Core.Path.{_≡_, refl, sym, _∙_}
-use mathlib.Core.Bool.{true, false}
-use mathlib.Core.List.{[]}
-use Prim.Native.Nat.{ℕ, suc, _-_, _<_}
-use native.Mathlib.Omega.{arith}
-use lib.Dec.{eqb}
-use Rattle·std.proofs.shelf.Tests.{cond-false, eq-eqb, ne-eqb, true≢false}
-use Rattle·sched·specs.House.{House, Place, A, Out, put, isTask, holds, freed, passed, leaves, runner, empty, opened, numberOf}
-use Rattle·sched·specs.Promise.{Comes, begin, called, ran, NoRings, RowsStand, times}
-use Rattle·sched·proofs.Tests.{T-true, true-T}
-use Rattle·sched·proofs.Puts.{put-both}
-use Rattle·sched·proofs.Bounded.{none-at}
-use Rattle·sched·proofs.model.CallWays.{Ways, call-ways}
-use Rattle·sched·proofs.model.Places.{freed-task}
-use Rattle·sched·proofs.model.Acyclic.{Waiter, Holder, in-no-row, free-row, keeps-tasks, leaves-place, takes-lock, frees-lock, passes-lock}
-use Rattle·sched·proofs.model.Runner.{AcyclicIn, Free, runner-free, runner-runner, runner-owner, queues-lock}
+use Rattle.std.proofs.Common.{◌≡◌, ℕ, suc, ◌-◌, ◌<◌, true, false, eqb, [], sym, refl, ◌∙◌, arith}
+use Rattle.std.proofs.lemmas.Bool.{cond-false, eq-eqb, ne_eqb, true≢false}
+use Rattle.sched.specs.House.{House, Place, A, Out, put, is_task, holds, freed, passed, leaves, runner, empty, opened, number_of}
+use Rattle.sched.specs.Promise.{Comes, begin, called, ran, NoRings, RowsStand, times}
+use Rattle.sched.proofs.Tests.{T_true, true-T}
+use Rattle.sched.proofs.Puts.{put_both}
+use Rattle.sched.proofs.Bounded.{none-at}
+use Rattle.sched.proofs.model.CallWays.{Ways, call-ways}
+use Rattle.sched.proofs.model.Places.{freed-task}
+use Rattle.sched.proofs.model.Acyclic.{Waiter, Holder, in-no-row, free-row, keeps-tasks, leaves-place, takes-lock, frees-lock, passes-lock}
+use Rattle.sched.proofs.model.Runner.{AcyclicIn, Free, runner-free, runner-runner, runner-owner, queues-lock}
 
 nobody-waits : AcyclicIn empty
 unfolding times
 nobody-waits =
     record {
       rank = λ i. 0;
-      once = λ i m. sym (cond-false {A = ℕ} (eqb 0 (suc m)) 1 0 (ne-eqb 0 (suc m) (omega arith)));
+      once = λ i m. sym (cond-false {A = ℕ} (eqb 0 (suc m)) 1 0 (ne_eqb 0 (suc m) (omega arith)));
       waiter = λ i m e. absurd (omega arith);
       holder = λ m j e. absurd (omega arith);
       falls = λ i m j e. absurd (omega arith);
     }
 
-made-task : (n : ℕ) (x : Place) (p : ℕ → Place) (i : ℕ) → isTask x ≡ true → isTask (p i) ≡ true → isTask (put n x p i) ≡ true
-made-task n x p i new old = put-both n x p i (λ z. isTask z ≡ true) (λ _. new) (λ _. old)
+made-task : (n : ℕ) (x : Place) (p : ℕ → Place) (i : ℕ) → is_task x ≡ true → is_task (p i) ≡ true → is_task (put n x p i) ≡ true
+made-task n x p i new old = put_both n x p i (λ z. is_task z ≡ true) (λ _. new) (λ _. old)
 
 abbrev After : Out → Type 0
-After o = AcyclicIn (o .house)
+After o = AcyclicIn o.house
 
 module _ (h : House) (s : AcyclicIn h) where
-  owns-nothing : (i : ℕ) → holds h i ≡ false → (m : ℕ) → h .owner m ≡ suc i → ⊥
-  owns-nothing i none m e =
-      true≢false (sym (eq-eqb (h .owner m) (suc i) e) ∙ none-at (λ (k : ℕ). eqb (h .owner k) (suc i)) 64 m none (s .holder m i e .0))
+  owns_nothing : (i : ℕ) → holds h i ≡ false → (m : ℕ) → h.owner m ≡ suc i → ⊥
+  owns_nothing i none m e =
+      true≢false (sym (eq-eqb (h.owner m) (suc i) e) ∙ none-at (λ (k : ℕ). eqb (h.owner k) (suc i)) 64 m none (s.holder m i e).0)
 
   acyclic-called : Ways h After
-  unfolding isTask
+  unfolding is_task
   acyclic-called =
       record {
         refused = λ n. s;
-        make = λ n k _ _ _ _ _. keeps-tasks (h .place) (put n (A k) (h .place)) (h .waits) (h .owner) (h .row) s (λ i. made-task n (A k) (h .place) i refl);
-        end = λ i l t free none. leaves-place (h .place) (h .waits) (h .owner) (h .row) i (leaves (h .window i) (h .place i)) s free (owns-nothing i none);
+        make = λ n k _ _ _ _ _. keeps-tasks h.place (put n (A k) h.place) h.waits h.owner h.row s (λ i. made-task n (A k) h.place i refl);
+        end = λ i l t free none. leaves-place h.place h.waits h.owner h.row i (leaves (h.window i) (h.place i)) s free (owns_nothing i none);
         wake = λ i l t. s;
         sleep = λ i l t free. s;
-        take = λ i m l t l′ free _ unowned. takes-lock (h .place) (h .waits) (h .owner) (h .row) i m s l t l′ unowned;
-        queue = λ i m l t l′ free _ owned apart. queues-lock h s i m (h .owner m - 1) l t free (omega (arith, owned)) apart;
-        free = λ i m l t l′ free owns none. frees-lock (h .place) (h .waits) (h .owner) (h .row) m s none;
-        pass = λ i m j js l t l′ free owns next. passes-lock (h .place) (h .waits) (h .owner) (h .row) i m j js s owns next;
+        take = λ i m l t l' free _ unowned. takes-lock h.place h.waits h.owner h.row i m s l t l' unowned;
+        queue = λ i m l t l' free _ owned apart. queues-lock h s i m (h.owner m - 1) l t free (omega (arith, owned)) apart;
+        free = λ i m l t l' free owns none. frees-lock h.place h.waits h.owner h.row m s none;
+        pass = λ i m j js l t l' free owns next. passes-lock h.place h.waits h.owner h.row i m j js s owns next;
       }
 
 pub comes-acyclic : {h : House} → Comes h → AcyclicIn h
 comes-acyclic begin = nobody-waits
 comes-acyclic (called {h} c r) = call-ways h After (acyclic-called h (comes-acyclic r)) c
 comes-acyclic (ran {h} t j r ok) =
-    keeps-tasks (h .place) (λ i. freed (passed (eqb (numberOf t) (suc i)) (opened h .window i)) (h .place i)) (h .waits) (h .owner) (h .row) (comes-acyclic r)
-    (λ i task. freed-task (passed (eqb (numberOf t) (suc i)) (opened h .window i)) (h .place i) ∙ task)
+    keeps-tasks h.place (λ i. freed (passed (eqb (number_of t) (suc i)) ((opened h).window i)) (h.place i)) h.waits h.owner h.row (comes-acyclic r)
+    (λ i task. freed-task (passed (eqb (number_of t) (suc i)) ((opened h).window i)) (h.place i) ∙ task)
 
 pub no-rings : NoRings
 no-rings h r i l t =
-    let f = runner-free h (comes-acyclic r) i l (T-true (isTask (h .place i)) t) in
-    (f .0, true-T (isTask (h .place (runner 64 h i))) (f .1))
+    let f = runner-free h (comes-acyclic r) i l (T_true (is_task (h.place i)) t) in
+    (f.0, true-T (is_task (h.place (runner 64 h i))) f.1)
 
 pub rows-stand : RowsStand
-rows-stand h r i m l l′ = comes-acyclic r .once i m
+rows-stand h r i m l l' = (comes-acyclic r).once i m
 
 -- What follows, for whoever knows that h can have come about.
 module _ (h : House) (r : Comes h) where
   -- an owner is a task
-  pub owner-is-task : (m j : ℕ) → h .owner m ≡ suc j → Holder (h .place) m j
-  owner-is-task = comes-acyclic r .holder
+  pub owner-is-task : (m j : ℕ) → h.owner m ≡ suc j → Holder h.place m j
+  owner-is-task = (comes-acyclic r).holder
 
   -- who waits is a task, and what it waits for has an owner
-  pub waiter-is-task : (i m : ℕ) → h .waits i ≡ suc m → Waiter (h .place) (h .owner) i m
-  waiter-is-task = comes-acyclic r .waiter
+  pub waiter-is-task : (i m : ℕ) → h.waits i ≡ suc m → Waiter h.place h.owner i m
+  waiter-is-task = (comes-acyclic r).waiter
 
-  pub unowned-row-empty : (m : ℕ) → h .owner m ≡ 0 → h .row m ≡ []
-  unowned-row-empty = free-row (h .place) (h .waits) (h .owner) (h .row) (comes-acyclic r)
+  pub unowned-row-empty : (m : ℕ) → h.owner m ≡ 0 → h.row m ≡ []
+  unowned-row-empty = free-row h.place h.waits h.owner h.row (comes-acyclic r)
 
-  pub stands-in-no-row : (i m : ℕ) → h .waits i ≡ 0 → times i (h .row m) ≡ 0
-  stands-in-no-row = in-no-row (h .place) (h .waits) (h .owner) (h .row) (comes-acyclic r)
+  pub stands-in-no-row : (i m : ℕ) → h.waits i ≡ 0 → times i (h.row m) ≡ 0
+  stands-in-no-row = in-no-row h.place h.waits h.owner h.row (comes-acyclic r)
 
-  pub runner-is-free : (i : ℕ) → i < 64 → isTask (h .place i) ≡ true → Free h (runner 64 h i)
+  pub runner-is-free : (i : ℕ) → i < 64 → is_task (h.place i) ≡ true → Free h (runner 64 h i)
   runner-is-free = runner-free h (comes-acyclic r)
 
-  pub runner-of-runner : (i : ℕ) → i < 64 → isTask (h .place i) ≡ true → runner 64 h (runner 64 h i) ≡ runner 64 h i
+  pub runner-of-runner : (i : ℕ) → i < 64 → is_task (h.place i) ≡ true → runner 64 h (runner 64 h i) ≡ runner 64 h i
   runner-of-runner = runner-runner h (comes-acyclic r)
 
-  pub runner-of-owner : (i m j : ℕ) → h .waits i ≡ suc m → h .owner m ≡ suc j → runner 64 h i ≡ runner 64 h j
+  pub runner-of-owner : (i m j : ℕ) → h.waits i ≡ suc m → h.owner m ≡ suc j → runner 64 h i ≡ runner 64 h j
   runner-of-owner = runner-owner h (comes-acyclic r)

@@ -1,5 +1,5 @@
-use Rattle·sched·proofs.model.Fairness.{near-each-other}
-use Rattle·sched·proofs.near_each_other.Needs as need
+use Rattle.sched.proofs.model.Fairness.{near-each-other}
+use Rattle.sched.proofs.near_each_other.Goals as goal
 
-pub returns : need.returns
+pub returns : goal.returns
 returns c = near-each-other

@@ -1,5 +1,5 @@
-use Rattle·sched·proofs.model.Quotas.{quotas-had}
-use Rattle·sched·proofs.quotas_had.Needs as need
+use Rattle.sched.proofs.model.Quotas.{quotas-had}
+use Rattle.sched.proofs.quotas_had.Goals as goal
 
-pub returns : need.returns
+pub returns : goal.returns
 returns c = quotas-had

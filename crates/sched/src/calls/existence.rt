@@ -1,23 +1,20 @@
 // make and end.
-ghost use mathlib.Core.Path.{_≡_};
-ghost use mathlib.Core.Bool.{true};
-ghost use Rattle·sched·specs.House.{House, calls};
-ghost use Rattle·sched·specs.Refusals.{isNo};
-ghost use Rattle·sched·specs.Stores.{Holds};
-use crate::Answer;
-use crate::Call;
-use crate::Kind;
-use crate::Scheduler;
+ghost use Rattle.std.specs.Prelude.{◌≡◌, true};
+ghost use Rattle.sched.specs.House.{House, calls};
+ghost use Rattle.sched.specs.Refusals.{is_no};
+ghost use Rattle.sched.specs.Stores.{Holds};
+
 use crate::promise::Promise;
 use crate::refusal::Refusal;
+use crate::{Answer, Call, Kind, Scheduler};
 
 // Shares and kept shares are at most three quarters of 10,080.
 const MOST_SHARES: u32 = 7560;
 
 impl Scheduler {
     pub(crate) fn make(&mut self, kind: Kind) -> Answer
-        ensures answered { λ r. ⌜ ((h : House) → Holds (now (self .entry)) h → (r ≡ calls (Call.Make kind) h .answer) × Holds (now (self .exit)) (calls (Call.Make kind) h .house)) ⌝ }
-        ensures refused { λ r. ⌜ (isNo r ≡ true → now (self .exit) ≡ now (self .entry)) ⌝ }
+        ensures answered { (h : House) → Holds self.old h → (result ≡ (calls (Call.Make kind) h).answer) × Holds self.new (calls (Call.Make kind) h).house }
+        ensures refused { is_no result ≡ true → self.new ≡ self.old }
     {
         let Some(promise) = Promise::of(kind) else {
             return Refusal::BadNumber.answer();
@@ -36,8 +33,8 @@ impl Scheduler {
     }
 
     pub(crate) fn end(&mut self, number: u32) -> Answer
-        ensures answered { λ r. ⌜ ((h : House) → Holds (now (self .entry)) h → (r ≡ calls (Call.End number) h .answer) × Holds (now (self .exit)) (calls (Call.End number) h .house)) ⌝ }
-        ensures refused { λ r. ⌜ (isNo r ≡ true → now (self .exit) ≡ now (self .entry)) ⌝ }
+        ensures answered { (h : House) → Holds self.old h → (result ≡ (calls (Call.End number) h).answer) × Holds self.new (calls (Call.End number) h).house }
+        ensures refused { is_no result ≡ true → self.new ≡ self.old }
     {
         let Some(i) = self.tasks.find(number) else {
             return Refusal::NoTask.answer();

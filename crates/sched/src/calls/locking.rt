@@ -1,22 +1,19 @@
 // lock and unlock.
-ghost use mathlib.Core.Path.{_≡_};
-ghost use mathlib.Core.Bool.{true};
-ghost use Rattle·sched·specs.Held.{canTake, Ready};
-ghost use Rattle·sched·specs.House.{House, calls};
-ghost use Rattle·sched·specs.Refusals.{isNo};
-ghost use Rattle·sched·specs.Stores.{Holds};
-use crate::Answer;
-use crate::Call;
-use crate::Scheduler;
+ghost use Rattle.std.specs.Prelude.{◌≡◌, true};
+ghost use Rattle.sched.specs.Held.{can_take, Ready};
+ghost use Rattle.sched.specs.House.{House, calls};
+ghost use Rattle.sched.specs.Refusals.{is_no};
+ghost use Rattle.sched.specs.Stores.{Holds};
+
 use crate::refusal::Refusal;
-use quantities::ids::LockId;
-use quantities::ids::TaskId;
+use crate::{Answer, Call, Scheduler};
+use quantities::ids::{LockId, TaskId};
 
 impl Scheduler {
     // Whether the lock is free, and the task there, awake and waiting for nothing.
     pub fn can_take(&self, i: TaskId, m: LockId) -> bool
-        ensures value { λ r. ⌜ ((h : House) → Holds (now (self .entry)) h → r ≡ canTake h (i .index) (m .index)) ⌝ }
-        ensures ready { λ r. ⌜ (r ≡ true → Ready (now (self .entry)) (i .index) (m .index)) ⌝ }
+        ensures value { (h : House) → Holds self.now h → result ≡ can_take h i.index m.index }
+        ensures ready { result ≡ true → Ready self.now i.index m.index }
     {
         if !self.tasks.slot(i).is_task() {
             return false;
@@ -31,8 +28,8 @@ impl Scheduler {
     }
 
     pub(crate) fn lock(&mut self, number: u32, lock: u32) -> Answer
-        ensures answered { λ r. ⌜ ((h : House) → Holds (now (self .entry)) h → (r ≡ calls (Call.Lock number lock) h .answer) × Holds (now (self .exit)) (calls (Call.Lock number lock) h .house)) ⌝ }
-        ensures refused { λ r. ⌜ (isNo r ≡ true → now (self .exit) ≡ now (self .entry)) ⌝ }
+        ensures answered { (h : House) → Holds self.old h → (result ≡ (calls (Call.Lock number lock) h).answer) × Holds self.new (calls (Call.Lock number lock) h).house }
+        ensures refused { is_no result ≡ true → self.new ≡ self.old }
     {
         let Some(i) = self.tasks.find(number) else {
             return Refusal::NoTask.answer();
@@ -56,8 +53,8 @@ impl Scheduler {
     }
 
     pub(crate) fn unlock(&mut self, number: u32, lock: u32) -> Answer
-        ensures answered { λ r. ⌜ ((h : House) → Holds (now (self .entry)) h → (r ≡ calls (Call.Unlock number lock) h .answer) × Holds (now (self .exit)) (calls (Call.Unlock number lock) h .house)) ⌝ }
-        ensures refused { λ r. ⌜ (isNo r ≡ true → now (self .exit) ≡ now (self .entry)) ⌝ }
+        ensures answered { (h : House) → Holds self.old h → (result ≡ (calls (Call.Unlock number lock) h).answer) × Holds self.new (calls (Call.Unlock number lock) h).house }
+        ensures refused { is_no result ≡ true → self.new ≡ self.old }
     {
         let Some(i) = self.tasks.find(number) else {
             return Refusal::NoTask.answer();

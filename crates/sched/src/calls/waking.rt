@@ -1,18 +1,16 @@
 // wake and sleep.
-ghost use mathlib.Core.Path.{_≡_};
-ghost use mathlib.Core.Bool.{true};
-ghost use Rattle·sched·specs.House.{House, calls};
-ghost use Rattle·sched·specs.Refusals.{isNo};
-ghost use Rattle·sched·specs.Stores.{Holds};
-use crate::Answer;
-use crate::Call;
-use crate::Scheduler;
+ghost use Rattle.std.specs.Prelude.{◌≡◌, true};
+ghost use Rattle.sched.specs.House.{House, calls};
+ghost use Rattle.sched.specs.Refusals.{is_no};
+ghost use Rattle.sched.specs.Stores.{Holds};
+
 use crate::refusal::Refusal;
+use crate::{Answer, Call, Scheduler};
 
 impl Scheduler {
     pub(crate) fn wake(&mut self, number: u32) -> Answer
-        ensures answered { λ r. ⌜ ((h : House) → Holds (now (self .entry)) h → (r ≡ calls (Call.Wake number) h .answer) × Holds (now (self .exit)) (calls (Call.Wake number) h .house)) ⌝ }
-        ensures refused { λ r. ⌜ (isNo r ≡ true → now (self .exit) ≡ now (self .entry)) ⌝ }
+        ensures answered { (h : House) → Holds self.old h → (result ≡ (calls (Call.Wake number) h).answer) × Holds self.new (calls (Call.Wake number) h).house }
+        ensures refused { is_no result ≡ true → self.new ≡ self.old }
     {
         let Some(i) = self.tasks.find(number) else {
             return Refusal::NoTask.answer();
@@ -23,8 +21,8 @@ impl Scheduler {
 
     // A task that waits can't be put to sleep: whether it wants a tick is up to its runner.
     pub(crate) fn sleep(&mut self, number: u32) -> Answer
-        ensures answered { λ r. ⌜ ((h : House) → Holds (now (self .entry)) h → (r ≡ calls (Call.Sleep number) h .answer) × Holds (now (self .exit)) (calls (Call.Sleep number) h .house)) ⌝ }
-        ensures refused { λ r. ⌜ (isNo r ≡ true → now (self .exit) ≡ now (self .entry)) ⌝ }
+        ensures answered { (h : House) → Holds self.old h → (result ≡ (calls (Call.Sleep number) h).answer) × Holds self.new (calls (Call.Sleep number) h).house }
+        ensures refused { is_no result ≡ true → self.new ≡ self.old }
     {
         let Some(i) = self.tasks.find(number) else {
             return Refusal::NoTask.answer();

@@ -1,10 +1,7 @@
 // The locks that a guard holds, in the order in which they were taken.
-ghost use mathlib.Core.Path.{_≡_};
-ghost use mathlib.Core.List.{[], _∷_};
-ghost use Prim.Native.Nat.{_<_, _≤_};
-ghost use lib.Dec.{ltb};
-ghost use Rattle·std.specs.Options.{Cases as BySome};
-ghost use Rattle·sched·specs.Stacks.{lastFirst};
+ghost use Rattle.std.specs.Prelude.{◌≡◌, ◌<◌, ◌≤◌, [], ◌∷◌, MatchOption, OnSome, nat_lt};
+ghost use Rattle.sched.specs.Stacks.{last_first};
+
 use quantities::ids::LockId;
 
 // Nobody holds a lock twice, so there is room for all that one task can hold.
@@ -17,7 +14,7 @@ pub struct LockStack {
 
 impl LockStack {
     pub fn new() -> Self
-        ensures { λ r. ⌜ lastFirst (r .locks) (r .depth) ≡ [] ⌝ }
+        ensures { last_first result.locks result.depth ≡ [] }
     {
         LockStack {
             locks: [0; 64],
@@ -26,14 +23,14 @@ impl LockStack {
     }
 
     pub fn has_room(&self) -> bool
-        ensures { λ r. ⌜ r ≡ ltb (now (self .entry) .depth) 64 ⌝ }
+        ensures { result ≡ nat_lt self.now.depth 64 }
     {
         self.depth < 64
     }
 
     pub(super) fn push(&mut self, m: LockId)
-        requires { ⌜ now self .depth < 64 ⌝ }
-        ensures { λ _. ⌜ lastFirst (now (self .exit) .locks) (now (self .exit) .depth) ≡ m .index ∷ lastFirst (now (self .entry) .locks) (now (self .entry) .depth) ⌝ }
+        requires { self.old.depth < 64 }
+        ensures { last_first self.new.locks self.new.depth ≡ m.index ∷ last_first self.old.locks self.old.depth }
     {
         let d = self.depth;
         self.locks[d] = m.index() as u8;
@@ -42,8 +39,8 @@ impl LockStack {
 
     // The number of the lock that was taken last.
     pub fn pop(&mut self) -> Option<u32>
-        ensures top { λ r. ⌜ BySome r ((lastFirst (now (self .entry) .locks) (now (self .entry) .depth) ≡ []) × (now (self .exit) ≡ now (self .entry))) (λ m. lastFirst (now (self .entry) .locks) (now (self .entry) .depth) ≡ m ∷ lastFirst (now (self .exit) .locks) (now (self .exit) .depth)) ⌝ }
-        ensures falls { λ r. ⌜ BySome r (Unit {0}) (λ _. now (self .exit) .depth < now (self .entry) .depth) ⌝ }
+        ensures top { MatchOption result ((last_first self.old.locks self.old.depth ≡ []) × (self.new ≡ self.old)) (λ m. last_first self.old.locks self.old.depth ≡ m ∷ last_first self.new.locks self.new.depth) }
+        ensures falls { OnSome result (self.new.depth < self.old.depth) }
     {
         let d = self.depth;
         if d == 0 {

@@ -1,28 +1,24 @@
 // What a line asks for: its verb, and what stands after it.
-ghost use mathlib.Core.Path.{_≡_};
-ghost use mathlib.Core.List.{List};
-ghost use Prim.Native.Nat.{ℕ};
-ghost use lib.Dec.{ltb};
-ghost use lib.ListN.{length};
-ghost use Rattle·script·specs.Grammar.{commandOf, oneWord, twoWords, kindOfOne, threeWords, fourWords};
-ghost use Rattle·script·specs.Taken.{WordAt, LineTaken};
+ghost use Rattle.std.specs.Prelude.{◌≡◌, ℕ, List, length, nat_lt};
+ghost use Rattle.script.specs.Grammar.{command_of, one_word, two_words, kind_of_one, three_words, four_words};
+ghost use Rattle.script.specs.Taken.{WordAt, LineTaken};
+
 use super::Line;
 use crate::command::Command;
 use crate::keyword::Keyword;
-use sched::Call;
-use sched::Kind;
+use sched::{Call, Kind};
 
 impl Line {
     // A byte of it has come.
     pub fn is_begun(&self) -> bool
-        ensures { λ r. ⌜ ((xs : List ℕ) → LineTaken (now (self .entry)) xs → r ≡ ltb 0 (length xs)) ⌝ }
+        ensures { (xs : List ℕ) → LineTaken self.now xs → result ≡ nat_lt 0 (length xs) }
     {
         self.begun
     }
 
     // What the line asks for, if it is a command.
     pub fn command(&self) -> Option<Command>
-        ensures { λ r. ⌜ ((xs : List ℕ) → LineTaken (now (self .entry)) xs → r ≡ commandOf xs) ⌝ }
+        ensures { (xs : List ℕ) → LineTaken self.now xs → result ≡ command_of xs }
     {
         if self.bad {
             return None;
@@ -36,7 +32,7 @@ impl Line {
     }
 
     fn alone(&self) -> Option<Command>
-        ensures { λ r. ⌜ ((v : List ℕ) → WordAt (now (self .entry) .words) 0 v → r ≡ oneWord v) ⌝ }
+        ensures { (v : List ℕ) → WordAt self.now.words 0 v → result ≡ one_word v }
     {
         if self.words[0].is(Keyword::Had) {
             return Some(Command::Had);
@@ -45,7 +41,7 @@ impl Line {
     }
 
     fn with_one(&self) -> Option<Command>
-        ensures { λ r. ⌜ ((v a : List ℕ) → WordAt (now (self .entry) .words) 0 v → WordAt (now (self .entry) .words) 1 a → r ≡ twoWords v a) ⌝ }
+        ensures { (v a : List ℕ) → WordAt self.now.words 0 v → WordAt self.now.words 1 a → result ≡ two_words v a }
     {
         let n = self.words[1].number()?;
         let verb = &self.words[0];
@@ -65,7 +61,7 @@ impl Line {
     }
 
     fn with_two(&self) -> Option<Command>
-        ensures { λ r. ⌜ ((v a b : List ℕ) → WordAt (now (self .entry) .words) 0 v → WordAt (now (self .entry) .words) 1 a → WordAt (now (self .entry) .words) 2 b → r ≡ threeWords v a b) ⌝ }
+        ensures { (v a b : List ℕ) → WordAt self.now.words 0 v → WordAt self.now.words 1 a → WordAt self.now.words 2 b → result ≡ three_words v a b }
     {
         let n = self.words[2].number()?;
         let verb = &self.words[0];
@@ -87,7 +83,7 @@ impl Line {
 
     // The kinds that have one number.
     fn make_of_one(&self, n: u32) -> Option<Command>
-        ensures { λ r. ⌜ ((a : List ℕ) → WordAt (now (self .entry) .words) 1 a → r ≡ kindOfOne a n) ⌝ }
+        ensures { (a : List ℕ) → WordAt self.now.words 1 a → result ≡ kind_of_one a n }
     {
         let kind = &self.words[1];
         if kind.is(Keyword::Fixed) {
@@ -100,7 +96,7 @@ impl Line {
     }
 
     fn with_three(&self) -> Option<Command>
-        ensures { λ r. ⌜ ((v a b c : List ℕ) → WordAt (now (self .entry) .words) 0 v → WordAt (now (self .entry) .words) 1 a → WordAt (now (self .entry) .words) 2 b → WordAt (now (self .entry) .words) 3 c → r ≡ fourWords v a b c) ⌝ }
+        ensures { (v a b c : List ℕ) → WordAt self.now.words 0 v → WordAt self.now.words 1 a → WordAt self.now.words 2 b → WordAt self.now.words 3 c → result ≡ four_words v a b c }
     {
         let quota = self.words[2].number()?;
         let period = self.words[3].number()?;

@@ -1,17 +1,14 @@
 // How a line is taken in.
-ghost use mathlib.Core.Path.{_≡_};
-ghost use mathlib.Core.Bool.{true, false};
-ghost use mathlib.Core.List.{List, [], _∷_, _++_};
-ghost use Prim.Native.Nat.{ℕ, _<_};
-ghost use lib.Dec.{eqb};
-ghost use Rattle·script·specs.Grammar.{words};
-ghost use Rattle·script·specs.Taken.{Stands, NoNext, LineTaken};
+ghost use Rattle.std.specs.Prelude.{◌≡◌, ℕ, ◌<◌, true, false, List, [], ◌∷◌, ◌++◌, ◌==◌};
+ghost use Rattle.script.specs.Grammar.{words};
+ghost use Rattle.script.specs.Taken.{Stands, NoNext, LineTaken};
+
 use super::Line;
 use crate::word::Word;
 
 impl Line {
     pub fn new() -> Line
-        ensures { λ r. ⌜ LineTaken r [] ⌝ }
+        ensures { LineTaken result [] }
     {
         Line {
             words: [Word::new(); 4],
@@ -23,7 +20,7 @@ impl Line {
 
     // One byte more, other than the newline.
     pub fn push(&mut self, byte: u8)
-        ensures { λ _. ⌜ ((xs : List ℕ) → LineTaken (now (self .entry)) xs → LineTaken (now (self .exit)) (xs ++ (byte ∷ []))) ⌝ }
+        ensures { (xs : List ℕ) → LineTaken self.old xs → LineTaken self.new (xs ++ (byte ∷ [])) }
     {
         if byte == b' ' {
             self.next_word();
@@ -35,7 +32,7 @@ impl Line {
 
     // A space: exactly one stands between two words, and no command has more than four.
     fn next_word(&mut self)
-        ensures { λ _. ⌜ ((xs : List ℕ) → Stands (now (self .entry)) xs → Stands (now (self .exit)) (xs ++ (32 ∷ []))) ⌝ }
+        ensures { (xs : List ℕ) → Stands self.old xs → Stands self.new (xs ++ (32 ∷ [])) }
     {
         if self.has_no_next_word() {
             self.bad = true;
@@ -46,15 +43,15 @@ impl Line {
 
     // The word is empty, or the last that a command can have.
     fn has_no_next_word(&self) -> bool
-        ensures none { λ r. ⌜ (r ≡ true → (xs : List ℕ) → Stands (now (self .entry)) xs → NoNext (words xs) (now (self .entry) .at) (now (self .entry) .bad)) ⌝ }
-        ensures some { λ r. ⌜ (r ≡ false → now (self .entry) .at < 3) ⌝ }
+        ensures none { result ≡ true → (xs : List ℕ) → Stands self.now xs → NoNext (words xs) self.now.at self.now.bad }
+        ensures some { result ≡ false → self.now.at < 3 }
     {
         self.words[self.at].is_empty() || self.at == 3
     }
 
     // A byte of the word that is being taken in.
     fn more(&mut self, byte: u8)
-        ensures { λ _. ⌜ ((xs : List ℕ) → eqb byte 32 ≡ false → Stands (now (self .entry)) xs → Stands (now (self .exit)) (xs ++ (byte ∷ []))) ⌝ }
+        ensures { (xs : List ℕ) → (byte == 32) ≡ false → Stands self.old xs → Stands self.new (xs ++ (byte ∷ [])) }
     {
         self.words[self.at].push(byte);
     }

@@ -1,17 +1,13 @@
 // How a page is filled.
-ghost use mathlib.Core.Path.{_≡_};
-ghost use mathlib.Core.List.{[], _∷_};
-ghost use Prim.Native.Nat.{_+_, _<_, _≤_};
-ghost use lib.ListN.{length};
-ghost use Rattle·std.specs.Written.{decimal};
-ghost use Rattle·script·specs.Printed.{Wrote};
-use super::Page;
-use super::SIZE;
+ghost use Rattle.std.specs.Prelude.{◌≡◌, ◌+◌, ◌<◌, ◌≤◌, [], ◌∷◌, length, decimal};
+ghost use Rattle.script.specs.Printed.{Wrote};
+
+use super::{Page, SIZE};
 use crate::digits::spell;
 
 impl Page {
     pub fn new() -> Page
-        ensures { λ r. ⌜ r .len ≡ 0 ⌝ }
+        ensures { result.len ≡ 0 }
     {
         Page {
             bytes: [0; 65536],
@@ -20,7 +16,7 @@ impl Page {
     }
 
     pub fn text(&mut self, text: &[u8])
-        ensures { λ _. ⌜ (now (self .entry) .len + length (now (text .entry)) ≤ 65536 → Wrote (now (self .entry)) (now (self .exit)) (now (text .entry))) ⌝ }
+        ensures { self.old.len + length text.now ≤ 65536 → Wrote self.old self.new text.now }
     {
         for k in 0..text.len() {
             self.put(text[k]);
@@ -29,8 +25,8 @@ impl Page {
 
     // In decimal digits.
     pub fn number(&mut self, n: u64)
-        ensures text { λ _. ⌜ (now (self .entry) .len + 20 ≤ 65536 → Wrote (now (self .entry)) (now (self .exit)) (decimal n)) ⌝ }
-        ensures most { λ _. ⌜ (now (self .entry) .len + 20 ≤ 65536 → now (self .exit) .len ≤ now (self .entry) .len + 20) ⌝ }
+        ensures text { self.old.len + 20 ≤ 65536 → Wrote self.old self.new (decimal n) }
+        ensures most { self.old.len + 20 ≤ 65536 → self.new.len ≤ self.old.len + 20 }
     {
         let mut digits = [0u8; 20];
         let first = spell(n, &mut digits);
@@ -38,7 +34,7 @@ impl Page {
     }
 
     pub fn put(&mut self, byte: u8)
-        ensures { λ _. ⌜ (now (self .entry) .len < 65536 → Wrote (now (self .entry)) (now (self .exit)) (byte ∷ [])) ⌝ }
+        ensures { self.old.len < 65536 → Wrote self.old self.new (byte ∷ []) }
     {
         if self.len < SIZE {
             self.bytes[self.len] = byte;

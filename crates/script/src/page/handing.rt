@@ -1,21 +1,15 @@
 // How what stands on a page is handed on.
-ghost use mathlib.Core.Path.{_≡_};
-ghost use mathlib.Core.Bool.{true};
-ghost use mathlib.Core.List.{List, [], _∷_, _++_};
-ghost use Prim.Native.Nat.{ℕ, _<_};
-ghost use Rattle·std.specs.Results.{isOk};
-ghost use Rattle·script·specs.Printed.{Printed, Roomy};
-use super::LONGEST_LINE;
-use super::Page;
-use super::SIZE;
-use crate::sink::Sink;
-use crate::sink::Stopped;
+ghost use Rattle.std.specs.Prelude.{◌≡◌, ℕ, ◌<◌, true, List, [], ◌∷◌, ◌++◌, is_ok};
+ghost use Rattle.script.specs.Printed.{Printed, Roomy};
+
+use super::{LONGEST_LINE, Page, SIZE};
+use crate::sink::{Sink, Stopped};
 
 impl Page {
     // What was gathered is handed on.
     pub fn flush<S: Sink>(&mut self, out: &mut S) -> Result<(), Stopped>
-        ensures empty { λ _. ⌜ now (self .exit) .len ≡ 0 ⌝ }
-        ensures printed { λ r. ⌜ (isOk r ≡ true → (xs : List ℕ) → Printed (S·Sink .took) (now (out .entry)) (now (self .entry)) xs → Printed (S·Sink .took) (now (out .exit)) (now (self .exit)) xs) ⌝ }
+        ensures empty { self.new.len ≡ 0 }
+        ensures printed { is_ok result ≡ true → (xs : List ℕ) → Printed S.Sink.took out.old self.old xs → Printed S.Sink.took out.new self.new xs }
     {
         let len = self.len;
         self.len = 0;
@@ -28,8 +22,8 @@ impl Page {
 
     // The line ends; the next one will find room.
     pub fn end_line<S: Sink>(&mut self, out: &mut S) -> Result<(), Stopped>
-        ensures room { λ _. ⌜ Roomy (now (self .exit)) ⌝ }
-        ensures printed { λ r. ⌜ (isOk r ≡ true → now (self .entry) .len < 65536 → (xs : List ℕ) → Printed (S·Sink .took) (now (out .entry)) (now (self .entry)) xs → Printed (S·Sink .took) (now (out .exit)) (now (self .exit)) (xs ++ (10 ∷ []))) ⌝ }
+        ensures room { Roomy self.new }
+        ensures printed { is_ok result ≡ true → self.old.len < 65536 → (xs : List ℕ) → Printed S.Sink.took out.old self.old xs → Printed S.Sink.took out.new self.new (xs ++ (10 ∷ [])) }
     {
         self.put(b'\n');
         if self.len > SIZE - LONGEST_LINE {

@@ -1,17 +1,15 @@
 // The texts of what is answered, without the newline.
-ghost use mathlib.Core.List.{_++_};
-ghost use Prim.Native.Nat.{_+_, _<_, _≤_};
-ghost use lib.ListN.{length};
-ghost use Rattle·std.specs.Written.{decimal};
-ghost use Rattle·script·specs.Printed.{Wrote, Roomy};
-ghost use Rattle·script·specs.Text.{answerText, tickText, countText, hadText, badLineText};
+ghost use Rattle.std.specs.Prelude.{◌+◌, ◌<◌, ◌≤◌, ◌++◌, length, decimal};
+ghost use Rattle.script.specs.Printed.{Wrote, Roomy};
+ghost use Rattle.script.specs.Text.{answer_text, tick_text, count_text, had_text, bad_line_text};
+
 use super::Page;
 use sched::Answer;
 
 impl Page {
     pub fn answer(&mut self, answer: Answer)
-        ensures text { λ _. ⌜ (Roomy (now (self .entry)) → Wrote (now (self .entry)) (now (self .exit)) (answerText answer)) ⌝ }
-        ensures room { λ _. ⌜ (Roomy (now (self .entry)) → now (self .exit) .len < 65536) ⌝ }
+        ensures text { Roomy self.old → Wrote self.old self.new (answer_text answer) }
+        ensures room { Roomy self.old → self.new.len < 65536 }
     {
         match answer {
             Answer::Done => self.text(b"done"),
@@ -22,8 +20,8 @@ impl Page {
 
     // Whose a tick is, and who runs in it.
     pub fn tick(&mut self, whose: Option<u32>, runs: u32)
-        ensures text { λ _. ⌜ (Roomy (now (self .entry)) → Wrote (now (self .entry)) (now (self .exit)) (tickText whose runs)) ⌝ }
-        ensures room { λ _. ⌜ (Roomy (now (self .entry)) → now (self .exit) .len < 65536) ⌝ }
+        ensures text { Roomy self.old → Wrote self.old self.new (tick_text whose runs) }
+        ensures room { Roomy self.old → self.new.len < 65536 }
     {
         match whose {
             Some(i) => {
@@ -38,8 +36,8 @@ impl Page {
 
     // How many ticks each task has had, by place.
     pub fn had(&mut self, counts: &[Option<u64>; 64])
-        ensures text { λ _. ⌜ (Roomy (now (self .entry)) → Wrote (now (self .entry)) (now (self .exit)) (hadText (now (counts .entry)))) ⌝ }
-        ensures room { λ _. ⌜ (Roomy (now (self .entry)) → now (self .exit) .len < 65536) ⌝ }
+        ensures text { Roomy self.old → Wrote self.old self.new (had_text counts.now) }
+        ensures room { Roomy self.old → self.new.len < 65536 }
     {
         self.text(b"had");
         for k in 0..counts.len() {
@@ -49,16 +47,16 @@ impl Page {
 
     // A line that is no command, by its number.
     pub fn bad_line(&mut self, number: u64)
-        ensures text { λ _. ⌜ (Roomy (now (self .entry)) → Wrote (now (self .entry)) (now (self .exit)) (badLineText number)) ⌝ }
-        ensures room { λ _. ⌜ (Roomy (now (self .entry)) → now (self .exit) .len < 65536) ⌝ }
+        ensures text { Roomy self.old → Wrote self.old self.new (bad_line_text number) }
+        ensures room { Roomy self.old → self.new.len < 65536 }
     {
         self.text_number(b"line ", number);
         self.text(b"?");
     }
 
     fn count(&mut self, count: Option<u64>)
-        ensures text { λ _. ⌜ (now (self .entry) .len + 21 ≤ 65536 → Wrote (now (self .entry)) (now (self .exit)) (countText count)) ⌝ }
-        ensures most { λ _. ⌜ (now (self .entry) .len + 21 ≤ 65536 → now (self .exit) .len ≤ now (self .entry) .len + 21) ⌝ }
+        ensures text { self.old.len + 21 ≤ 65536 → Wrote self.old self.new (count_text count) }
+        ensures most { self.old.len + 21 ≤ 65536 → self.new.len ≤ self.old.len + 21 }
     {
         match count {
             Some(n) => self.text_number(b" ", n),
@@ -67,8 +65,8 @@ impl Page {
     }
 
     fn text_number(&mut self, text: &[u8], n: u64)
-        ensures text { λ _. ⌜ (now (self .entry) .len + length (now (text .entry)) + 20 ≤ 65536 → Wrote (now (self .entry)) (now (self .exit)) (now (text .entry) ++ decimal n)) ⌝ }
-        ensures most { λ _. ⌜ (now (self .entry) .len + length (now (text .entry)) + 20 ≤ 65536 → now (self .exit) .len ≤ now (self .entry) .len + length (now (text .entry)) + 20) ⌝ }
+        ensures text { self.old.len + length text.now + 20 ≤ 65536 → Wrote self.old self.new (text.now ++ decimal n) }
+        ensures most { self.old.len + length text.now + 20 ≤ 65536 → self.new.len ≤ self.old.len + length text.now + 20 }
     {
         self.text(text);
         self.number(n);

@@ -1,34 +1,30 @@
 // The lines that are printed.
-ghost use mathlib.Core.Path.{_≡_};
-ghost use mathlib.Core.Bool.{true};
-ghost use mathlib.Core.List.{List, [], _++_};
-ghost use Prim.Native.Nat.{ℕ};
-ghost use Rattle·std.specs.Results.{isOk};
-ghost use Rattle·script·specs.Printed.{Printed, pending};
-ghost use Rattle·script·specs.Text.{answerText, tickText, hadText, badLineText, asLine};
+ghost use Rattle.std.specs.Prelude.{◌≡◌, ℕ, true, List, [], ◌++◌, is_ok};
+ghost use Rattle.script.specs.Printed.{Printed, pending};
+ghost use Rattle.script.specs.Text.{answer_text, tick_text, had_text, bad_line_text, as_line};
+
 use super::Printer;
 use crate::page::Page;
-use crate::sink::Sink;
-use crate::sink::Stopped;
+use crate::sink::{Sink, Stopped};
 use sched::Answer;
 
 impl Printer {
     pub fn new() -> Printer
-        ensures { λ r. ⌜ pending (r .page) ≡ [] ⌝ }
+        ensures { pending result.page ≡ [] }
     {
         Printer { page: Page::new() }
     }
 
     // All that was printed is handed on.
     pub fn flush<S: Sink>(&mut self, out: &mut S) -> Result<(), Stopped>
-        ensures empty { λ _. ⌜ pending (now (self .exit) .page) ≡ [] ⌝ }
-        ensures printed { λ r. ⌜ (isOk r ≡ true → (xs : List ℕ) → Printed (S·Sink .took) (now (out .entry)) (now (self .entry) .page) xs → Printed (S·Sink .took) (now (out .exit)) (now (self .exit) .page) xs) ⌝ }
+        ensures empty { pending self.new.page ≡ [] }
+        ensures printed { is_ok result ≡ true → (xs : List ℕ) → Printed S.Sink.took out.old self.old.page xs → Printed S.Sink.took out.new self.new.page xs }
     {
         self.page.flush(out)
     }
 
     pub fn answer<S: Sink>(&mut self, answer: Answer, out: &mut S) -> Result<(), Stopped>
-        ensures { λ r. ⌜ (isOk r ≡ true → (xs : List ℕ) → Printed (S·Sink .took) (now (out .entry)) (now (self .entry) .page) xs → Printed (S·Sink .took) (now (out .exit)) (now (self .exit) .page) (xs ++ asLine (answerText answer))) ⌝ }
+        ensures { is_ok result ≡ true → (xs : List ℕ) → Printed S.Sink.took out.old self.old.page xs → Printed S.Sink.took out.new self.new.page (xs ++ as_line (answer_text answer)) }
     {
         self.page.answer(answer);
         self.page.end_line(out)
@@ -41,7 +37,7 @@ impl Printer {
         runs: u32,
         out: &mut S,
     ) -> Result<(), Stopped>
-        ensures { λ r. ⌜ (isOk r ≡ true → (xs : List ℕ) → Printed (S·Sink .took) (now (out .entry)) (now (self .entry) .page) xs → Printed (S·Sink .took) (now (out .exit)) (now (self .exit) .page) (xs ++ asLine (tickText whose runs))) ⌝ }
+        ensures { is_ok result ≡ true → (xs : List ℕ) → Printed S.Sink.took out.old self.old.page xs → Printed S.Sink.took out.new self.new.page (xs ++ as_line (tick_text whose runs)) }
     {
         self.page.tick(whose, runs);
         self.page.end_line(out)
@@ -49,7 +45,7 @@ impl Printer {
 
     // How many ticks each task has had, by place.
     pub fn had<S: Sink>(&mut self, counts: &[Option<u64>; 64], out: &mut S) -> Result<(), Stopped>
-        ensures { λ r. ⌜ (isOk r ≡ true → (xs : List ℕ) → Printed (S·Sink .took) (now (out .entry)) (now (self .entry) .page) xs → Printed (S·Sink .took) (now (out .exit)) (now (self .exit) .page) (xs ++ asLine (hadText (now (counts .entry))))) ⌝ }
+        ensures { is_ok result ≡ true → (xs : List ℕ) → Printed S.Sink.took out.old self.old.page xs → Printed S.Sink.took out.new self.new.page (xs ++ as_line (had_text counts.now)) }
     {
         self.page.had(counts);
         self.page.end_line(out)
@@ -57,7 +53,7 @@ impl Printer {
 
     // A line that is no command, by its number.
     pub fn bad_line<S: Sink>(&mut self, number: u64, out: &mut S) -> Result<(), Stopped>
-        ensures { λ r. ⌜ (isOk r ≡ true → (xs : List ℕ) → Printed (S·Sink .took) (now (out .entry)) (now (self .entry) .page) xs → Printed (S·Sink .took) (now (out .exit)) (now (self .exit) .page) (xs ++ asLine (badLineText number))) ⌝ }
+        ensures { is_ok result ≡ true → (xs : List ℕ) → Printed S.Sink.took out.old self.old.page xs → Printed S.Sink.took out.new self.new.page (xs ++ as_line (bad_line_text number)) }
     {
         self.page.bad_line(number);
         self.page.end_line(out)

@@ -1,16 +1,16 @@
 // Where a task enters beside a position of another weight. Its parts round up, so that nobody gains by entering.
+ghost use Rattle.std.specs.Prelude.{◌≡◌, ◌≤◌};
+ghost use Rattle.virtual_time.specs.Positions.{capped, up_rest, joined_far, joined_rest, made_far, made_rest};
+
 use super::Position;
 use quantities::promises::Weight;
-ghost use mathlib.Core.Path.{_≡_};
-ghost use Prim.Native.Nat.{_≤_};
-ghost use Rattle·virtual_time·specs.Positions.{capped, upRest, joinedFar, joinedRest, madeFar, madeRest};
 
 impl Position {
     // At this position or just beyond, in parts of `weight`.
     pub fn ceiling(self, weight: Weight) -> Self
-        ensures whole { λ r. ⌜ r .whole ≡ capped (joinedFar (self .whole) (self .rest) (self .weight .value) (weight .value)) ⌝ }
-        ensures rest { λ r. ⌜ r .rest ≡ joinedRest (self .rest) (self .weight .value) (weight .value) ⌝ }
-        ensures weight { λ r. ⌜ r .weight ≡ weight ⌝ }
+        ensures whole { result.whole ≡ capped (joined_far self.whole self.rest self.weight.value weight.value) }
+        ensures rest { result.rest ≡ joined_rest self.rest self.weight.value weight.value }
+        ensures weight { result.weight ≡ weight }
     {
         let parts = self.parts_up(weight);
         if parts < weight.get() {
@@ -30,9 +30,9 @@ impl Position {
 
     // One part of `weight` beyond this position, rounded up.
     pub fn beyond(self, weight: Weight) -> Self
-        ensures whole { λ r. ⌜ r .whole ≡ capped (madeFar (self .whole) (self .rest) (self .weight .value) (weight .value)) ⌝ }
-        ensures rest { λ r. ⌜ r .rest ≡ madeRest (self .rest) (self .weight .value) (weight .value) ⌝ }
-        ensures weight { λ r. ⌜ r .weight ≡ weight ⌝ }
+        ensures whole { result.whole ≡ capped (made_far self.whole self.rest self.weight.value weight.value) }
+        ensures rest { result.rest ≡ made_rest self.rest self.weight.value weight.value }
+        ensures weight { result.weight ≡ weight }
     {
         let parts = self.parts_up(weight) + 1;
         Position {
@@ -44,8 +44,8 @@ impl Position {
 
     // The rest in parts of `weight`, rounded up.
     fn parts_up(self, weight: Weight) -> u32
-        ensures value { λ r. ⌜ r ≡ upRest (self .rest) (self .weight .value) (weight .value) ⌝ }
-        ensures bound { λ r. ⌜ r ≤ weight .value ⌝ }
+        ensures value { result ≡ up_rest self.rest self.weight.value weight.value }
+        ensures bound { result ≤ weight.value }
     {
         let own = self.weight.get();
         (self.rest as u32 * weight.get() + (own - 1)) / own

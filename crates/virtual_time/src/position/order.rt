@@ -1,11 +1,12 @@
 // Which of two positions is behind: parts of different weights compare by their products.
+ghost use Rattle.std.specs.Prelude.{◌≡◌};
+ghost use Rattle.virtual_time.specs.Positions.{less_far};
+
 use super::Position;
-ghost use mathlib.Core.Path.{_≡_};
-ghost use Rattle·virtual_time·specs.Positions.{lessFar};
 
 impl Position {
     pub fn is_behind(self, other: Position) -> bool
-        ensures { λ r. ⌜ r ≡ lessFar (self .whole) (self .rest) (self .weight .value) (other .whole) (other .rest) (other .weight .value) ⌝ }
+        ensures { result ≡ less_far self.whole self.rest self.weight.value other.whole other.rest other.weight.value }
     {
         if self.whole != other.whole {
             return self.whole < other.whole;

@@ -1,25 +1,25 @@
 // What a position is made of.
+ghost use Rattle.std.specs.Prelude.{◌≡◌, ◌<◌};
+
 use super::Position;
 use quantities::promises::Weight;
-ghost use mathlib.Core.Path.{_≡_};
-ghost use Prim.Native.Nat.{_<_};
 
 impl Position {
     pub fn whole(self) -> u32
-        ensures { λ r. ⌜ r ≡ self .whole ⌝ }
+        ensures { result ≡ self.whole }
     {
         self.whole
     }
 
     pub fn rest(self) -> u32
-        ensures value { λ r. ⌜ r ≡ self .rest ⌝ }
-        ensures bound { λ r. ⌜ r < self .weight .value ⌝ }
+        ensures value { result ≡ self.rest }
+        ensures bound { result < self.weight.value }
     {
         self.rest as u32
     }
 
     pub fn weight(self) -> Weight
-        ensures { λ r. ⌜ r ≡ self .weight ⌝ }
+        ensures { result ≡ self.weight }
     {
         self.weight
     }

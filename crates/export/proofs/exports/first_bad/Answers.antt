@@ -1,22 +1,17 @@
 -- The search stops at the first step that isn't good, or at the end.
-use mathlib.Core.Path.{_≡_, sym, subst, _∙_}
-use mathlib.Core.Bool.{true}
-use mathlib.Core.Logic.{⊎-elim}
-use Prim.Native.Nat.{ℕ}
-use native.Mathlib.Omega.{arith}
-use lib.ListN.{getD}
-use Rattle·std.proofs.shelf.Tests.{cases-eq}
-use Rattle·export·specs.Wire.{good, noStep}
-use Rattle·export·proofs.exports.first_bad.Needs as need
+use Rattle.std.proofs.Common.{◌≡◌, ℕ, true, get_or, sym, ◌∙◌, subst, ⊎_elim, arith}
+use Rattle.std.proofs.lemmas.Bool.{cases_eq}
+use Rattle.export.specs.Wire.{good, no_step}
+use Rattle.export.proofs.exports.first_bad.Goals as goal
 
-pub loop-i-again : need.loop-i-again
-loop-i-again c =
-    λ k l. ⊎-elim (λ e. subst (λ (n : ℕ). good (getD (c .args .steps .now) n noStep) ≡ true) (sym e) (sym (c .is-good .ensures) ∙ c .if-not-is-good .left)) (λ ne. c .loop-i .inv k (omega arith))
-    (cases-eq k (c .loop-i .i))
+pub loop-i-preserved : goal.loop-i-preserved
+loop-i-preserved c =
+    λ k l. ⊎_elim (λ e. subst (λ (n : ℕ). good (get_or c.args.steps.now n no_step) ≡ true) (sym e) (sym c.is_good.ensures ∙ c.if-not-is_good.false)) (λ ne. c.loop-i.invariant k (omega arith))
+    (cases_eq k c.loop-i.i)
 
-pub returns-then-not-is-good : need.returns-then-not-is-good
-returns-then-not-is-good c =
-    record { within = omega arith; before = c .loop-i .inv; here = λ l. sym (c .is-good .ensures) ∙ c .if-not-is-good .taken }
+pub returns-then-not-is_good : goal.returns-then-not-is_good
+returns-then-not-is_good c =
+    record { within = omega arith; before = c.loop-i.invariant; here = λ l. sym c.is_good.ensures ∙ c.if-not-is_good.true }
 
-pub returns : need.returns
-returns c = record { within = omega arith; before = λ k l. c .loop-i .inv k (omega arith); here = λ l. absurd (omega arith) }
+pub returns : goal.returns
+returns c = record { within = omega arith; before = λ k l. c.loop-i.invariant k (omega arith); here = λ l. absurd (omega arith) }

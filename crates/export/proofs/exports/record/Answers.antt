@@ -1,24 +1,21 @@
 -- Each turn writes the entry that answers its step.
-use mathlib.Core.Path.{_≡_, refl, subst, _∙_}
-use Prim.Native.Nat.{ℕ}
-use native.Mathlib.Omega.{arith}
-use lib.ListN.{length-set}
-use Rattle·export·specs.Kept.{Kept}
-use Rattle·export·proofs.Turned.{turned-none, turned-more, turned-done}
-use Rattle·export·proofs.exports.record.Needs as need
+use Rattle.std.proofs.Common.{◌≡◌, ℕ, refl, ◌∙◌, subst, arith, length-set}
+use Rattle.export.specs.Kept.{Kept}
+use Rattle.export.proofs.Turned.{turned_none, turned_more, turned-done}
+use Rattle.export.proofs.exports.record.Goals as goal
 
-pub loop-n-holds : need.loop-n-holds
-loop-n-holds c = (turned-none (c .args .steps .now) (c .args .log .now) (c .new-s .result) (c .new-s .ensures), refl)
+pub loop-n-init : goal.loop-n-init
+loop-n-init c = (turned_none c.args.steps.now c.args.log.now c.new-s.result c.new-s.ensures, refl)
 
-pub loop-n-again : need.loop-n-again
-loop-n-again c = (
-  turned-more (c .args .steps .now) (c .args .log .now) (c .loop-n .log) (c .loop-n .s) (c .turn-entry .last .s) (c .loop-n .n) (c .step-asked .result) (c .turn-entry .result) (c .new-out .result) (c .loop-n .inv .0)
-      (omega arith) (omega arith) (c .step-asked .ensures) (c .new-out .ensures) (c .turn-entry .ensures .answers) (c .turn-entry .ensures .allowed),
-  length-set (c .loop-n .log) (c .loop-n .n) (c .new-out .result) ∙ c .loop-n .inv .1,
+pub loop-n-preserved : goal.loop-n-preserved
+loop-n-preserved c = (
+  turned_more c.args.steps.now c.args.log.now c.loop-n.log c.loop-n.s c.turn-entry.new.s c.loop-n.n c.step-asked.result c.turn-entry.result c.new-out.result c.loop-n.invariant.0
+      (omega arith) (omega arith) c.step-asked.ensures c.new-out.ensures c.turn-entry.ensures.answers c.turn-entry.ensures.allowed,
+  length-set c.loop-n.log c.loop-n.n c.new-out.result ∙ c.loop-n.invariant.1,
 )
 
-pub returns : need.returns
+pub returns : goal.returns
 returns c =
-    let e : c .loop-n .n ≡ c .least-many .result = omega arith in
-    subst (λ (n : ℕ). Kept (c .args .steps .now) (c .args .log .now) (c .loop-n .log) n) e
-    (turned-done (c .args .steps .now) (c .args .log .now) (c .loop-n .log) (c .loop-n .s) (c .loop-n .n) (c .loop-n .inv .0) (c .loop-n .inv .1) (e ∙ c .least-many .ensures))
+    let e : c.loop-n.n ≡ c.least-many.result = omega arith in
+    subst (λ (n : ℕ). Kept c.args.steps.now c.args.log.now c.loop-n.log n) e
+    (turned-done c.args.steps.now c.args.log.now c.loop-n.log c.loop-n.s c.loop-n.n c.loop-n.invariant.0 c.loop-n.invariant.1 (e ∙ c.least-many.ensures))

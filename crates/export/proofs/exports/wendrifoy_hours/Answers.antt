@@ -1,18 +1,15 @@
 -- A step that isn't good is answered before anything is played.
-use mathlib.Core.Path.{refl, sym, _∙_}
-use mathlib.Core.Bool.{false}
-use mathlib.Core.Logic.{inl, inr}
-use native.Mathlib.Omega.{arith}
-use Rattle·std.proofs.shelf.Tests.{false≢true}
-use Rattle·export·proofs.exports.wendrifoy_hours.Needs as need
+use Rattle.std.proofs.Common.{false, sym, refl, ◌∙◌, inl, inr, arith}
+use Rattle.std.proofs.lemmas.Bool.{false≢true}
+use Rattle.export.proofs.exports.wendrifoy_hours.Goals as goal
 
-pub returns-then-first-bad-steps : need.returns-then-first-bad-steps
-returns-then-first-bad-steps c =
+pub returns-then-first_bad-steps : goal.returns-then-first_bad-steps
+returns-then-first_bad-steps c =
     inl (record {
-      bad = λ g. false≢true (sym (c .first-bad .ensures .here (c .if-first-bad-steps .taken)) ∙ g (c .first-bad .result) (c .if-first-bad-steps .taken));
+      bad = λ g. false≢true (sym (c.first_bad.ensures.here c.if-first_bad-steps.true) ∙ g c.first_bad.result c.if-first_bad-steps.true);
       says = refl;
       same = refl;
     })
 
-pub returns : need.returns
-returns c = inr (λ k l. c .first-bad .ensures .before k (omega arith))
+pub returns : goal.returns
+returns c = inr (λ k l. c.first_bad.ensures.before k (omega arith))

@@ -1,14 +1,14 @@
 -- A new recorder's log comes to the empty house; what it holds after the hours is legal by its type.
-use mathlib.Core.Path.{ap}
-use Rattle·sched.specs.House.{empty}
-use Rattle·memory·specs.Run.{outcome}
-use Rattle·memory·specs.Recorded.{entriesOf}
-use Rattle·memory·proofs.Runs.{legal-run}
-use Rattle·memory·proofs.play.recorded.Needs as need
+use Rattle.std.proofs.Common.{ap}
+use Rattle.sched.specs.House.{empty}
+use Rattle.memory.specs.Run.{outcome}
+use Rattle.memory.specs.Recorded.{entries_of}
+use Rattle.memory.proofs.Runs.{legal-run}
+use Rattle.memory.proofs.play.recorded.Goals as goal
 
-pub hours-requires : need.hours-requires
+pub hours-requires : goal.hours-requires
 unfolding outcome
-hours-requires c κs = record { begins = ap (outcome empty) (c .in-Some .ensures tt .1) }
+hours-requires c = record { begins = ap (outcome empty) c.in-Some.ensures.1 }
 
-pub returns-in-Some : need.returns-in-Some
-returns-in-Some c = legal-run empty (entriesOf (c .hours .last .w)) (c .hours .last .w .lawful)
+pub returns-in-Some : goal.returns-in-Some
+returns-in-Some c = legal-run empty (entries_of c.hours.new.w) c.hours.new.w.lawful

@@ -1,23 +1,22 @@
 -- Each step is the one that is drawn next.
-use mathlib.Core.Path.{_≡_, refl, _∙_}
-use native.Mathlib.Omega.{arith}
-use Rattle·player·proofs.Sessions.{choosing-none, chose}
-use Rattle·player·proofs.Player.any.Needs as need
+use Rattle.std.proofs.Common.{◌≡◌, refl, ◌∙◌, arith}
+use Rattle.player.proofs.Sessions.{choosing-none, chose}
+use Rattle.player.proofs.Player.any.Goals as goal
 
-pub loop-k-holds : need.loop-k-holds
-loop-k-holds c = (λ e rest at. choosing-none (c .args .seed) (c .new-generator .result .state) (c .args .self .now) e rest (c .new-generator .ensures) at, refl)
+pub loop-k-init : goal.loop-k-init
+loop-k-init c = (λ e rest at. choosing-none c.args.seed c.new-generator.result.state c.args.self.now e rest c.new-generator.ensures at, refl)
 
-pub loop-k-again : need.loop-k-again
-loop-k-again c = (
+pub loop-k-preserved : goal.loop-k-preserved
+loop-k-preserved c = (
   λ e rest at.
-      c .go .ensures .goes (c .args .seed) (c .loop-k .-k) (c .loop-k .generator .state) (c .next-step-chosen .last .self .state) e rest (c .loop-k .inv .0 e rest at) (c .next-step-chosen .ensures),
-  c .go .ensures .silent ∙ c .loop-k .inv .1,
+      c.go.ensures.goes c.args.seed c.loop-k._k c.loop-k.generator.state c.next_step-chosen.new.self.state e rest (c.loop-k.invariant.0 e rest at) c.next_step-chosen.ensures,
+  c.go.ensures.silent ∙ c.loop-k.invariant.1,
 )
 
-pub returns : need.returns
+pub returns : goal.returns
 returns c =
-    let n : c .loop-k .-k ≡ c .args .many = omega arith in
+    let n : c.loop-k._k ≡ c.args.many = omega arith in
     record {
-      chose = λ e rest at. chose (c .args .seed) (c .loop-k .-k) (c .loop-k .generator .state) 0 e (c .loop-k .self) (c .loop-k .self) rest (c .loop-k .inv .0 e rest at) (c .args .many) n;
-      silent = c .loop-k .inv .1;
+      chose = λ e rest at. chose c.args.seed c.loop-k._k c.loop-k.generator.state 0 e c.loop-k.self c.loop-k.self rest (c.loop-k.invariant.0 e rest at) c.args.many n;
+      silent = c.loop-k.invariant.1;
     }

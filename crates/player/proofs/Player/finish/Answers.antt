@@ -1,20 +1,19 @@
 -- With or without a last line that lacks its newline.
-use mathlib.Core.Path.{refl, sym, _∙_}
-use mathlib.Core.List.{_++_}
-use Rattle·player·proofs.Scripts.{played-whole, played-last}
-use Rattle·player·proofs.Player.finish.Needs as need
+use Rattle.std.proofs.Common.{◌++◌, sym, refl, ◌∙◌}
+use Rattle.player.proofs.Scripts.{played-whole, played-last}
+use Rattle.player.proofs.Player.finish.Goals as goal
 
-pub returns-then-not-begun : need.returns-then-not-begun
+pub returns-then-not-begun : goal.returns-then-not-begun
 returns-then-not-begun g c =
     λ ok before script so.
-    played-whole (g .S·Sink .took) (c .args .self .now)
-    (record { counting = c .args .self .now .counting; printer = c .flush .last .self; line = c .args .self .now .line; lines = c .args .self .now .lines }) (c .args .out .now) (c .flush .last .out) before script so
-    (sym (c .is-begun-begun .ensures (so .rest) (so .at .line)) ∙ c .if-not-begun .taken) (c .flush .ensures .empty) (c .flush .ensures .printed ok)
+    played-whole g.S.Sink.took c.args.self.now
+    (record { counting = c.args.self.now.counting; printer = c.flush.new.self; line = c.args.self.now.line; lines = c.args.self.now.lines }) c.args.out.now c.flush.new.out before script so
+    (sym (c.is_begun-begun.ensures so.rest so.at.line) ∙ c.if-not-begun.true) c.flush.ensures.empty (c.flush.ensures.printed ok)
 
-pub returns : need.returns
+pub returns : goal.returns
 returns g c =
     λ ok before script so.
-    played-last (g .S·Sink .took) (c .args .self .now) (c .end-line .last .self)
-    (record { counting = c .end-line .last .self .counting; printer = c .flush-2 .last .self; line = c .end-line .last .self .line; lines = c .end-line .last .self .lines }) (c .args .out .now) (c .end-line .last .out) (c .flush-2 .last .out) before
-    script so (sym (c .is-begun-begun .ensures (so .rest) (so .at .line)) ∙ c .if-not-begun .left)
-    (c .in-Continue-end-line .ensures tt refl (so .session) (so .rest) (before ++ so .text) (so .at) (so .printed)) (c .flush-2 .ensures .empty) (c .flush-2 .ensures .printed ok)
+    played-last g.S.Sink.took c.args.self.now c.end_line.new.self
+    (record { counting = c.end_line.new.self.counting; printer = c.flush-2.new.self; line = c.end_line.new.self.line; lines = c.end_line.new.self.lines }) c.args.out.now c.end_line.new.out c.flush-2.new.out before
+    script so (sym (c.is_begun-begun.ensures so.rest so.at.line) ∙ c.if-not-begun.false)
+    (c.in_ok-end_line.ensures refl so.session so.rest (before ++ so.text) so.at so.printed) c.flush-2.ensures.empty (c.flush-2.ensures.printed ok)

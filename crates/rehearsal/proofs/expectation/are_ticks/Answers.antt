@@ -1,22 +1,21 @@
 -- The next line is a tick, or isn't, or there is none.
-use mathlib.Core.Path.{sym, _∙_}
-use native.Mathlib.Omega.{arith}
-use Rattle·rehearsal·specs.Cuts.{left}
-use Rattle·rehearsal·proofs.Meeting.{no-line, no-tick, a-tick, all-ticks}
-use Rattle·rehearsal·proofs.expectation.are_ticks.Needs as need
+use Rattle.std.proofs.Common.{sym, ◌∙◌, arith}
+use Rattle.rehearsal.specs.Cuts.{left}
+use Rattle.rehearsal.proofs.Meeting.{no_line, no-tick, a-tick, all-ticks}
+use Rattle.rehearsal.proofs.expectation.are_ticks.Goals as goal
 
-pub returns-then-not-is-tick : need.returns-then-not-is-tick
-returns-then-not-is-tick c =
-    sym (c .loop-k .inv)
-    ∙ no-tick (c .args .many) (c .loop-k .k) (left (c .loop-k .lines)) (left (c .next .last .self)) (c .in-Some .line .now) (omega arith) (c .in-Some .ensures tt) (sym (c .is-tick .ensures) ∙ c .if-not-is-tick .taken)
+pub returns-then-not-is_tick : goal.returns-then-not-is_tick
+returns-then-not-is_tick c =
+    sym c.loop-k.invariant
+    ∙ no-tick c.args.many c.loop-k.k (left c.loop-k.lines) (left c.next.new.self) c.in-Some.line.now (omega arith) c.in-Some.ensures (sym c.is_tick.ensures ∙ c.if-not-is_tick.true)
 
-pub returns-in-None : need.returns-in-None
-returns-in-None c = sym (c .loop-k .inv) ∙ no-line (c .args .many) (c .loop-k .k) (left (c .loop-k .lines)) (omega arith) (c .in-None .ensures tt .0)
+pub returns-in-None : goal.returns-in-None
+returns-in-None c = sym c.loop-k.invariant ∙ no_line c.args.many c.loop-k.k (left c.loop-k.lines) (omega arith) c.in-None.ensures.0
 
-pub loop-k-again : need.loop-k-again
-loop-k-again c =
-    a-tick (c .args .many) (c .loop-k .k) (left (c .loop-k .lines)) (left (c .next .last .self)) (c .in-Some .line .now) (omega arith) (c .in-Some .ensures tt) (sym (c .is-tick .ensures) ∙ c .if-not-is-tick .left)
-    ∙ c .loop-k .inv
+pub loop-k-preserved : goal.loop-k-preserved
+loop-k-preserved c =
+    a-tick c.args.many c.loop-k.k (left c.loop-k.lines) (left c.next.new.self) c.in-Some.line.now (omega arith) c.in-Some.ensures (sym c.is_tick.ensures ∙ c.if-not-is_tick.false)
+    ∙ c.loop-k.invariant
 
-pub returns : need.returns
-returns c = sym (c .loop-k .inv) ∙ all-ticks (c .args .many) (c .loop-k .k) (left (c .loop-k .lines)) (omega arith)
+pub returns : goal.returns
+returns c = sym c.loop-k.invariant ∙ all-ticks c.args.many c.loop-k.k (left c.loop-k.lines) (omega arith)

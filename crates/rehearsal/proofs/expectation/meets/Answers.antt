@@ -1,47 +1,46 @@
 -- The next words meet, or don't, or one of them is missing.
-use mathlib.Core.Path.{sym, ap, _∙_}
-use mathlib.Core.Bool.{not}
-use Rattle·rehearsal·specs.Cuts.{left}
-use Rattle·rehearsal·proofs.Meeting.{words-more, words-apart, words-short, words-over, not-not}
-use Rattle·rehearsal·proofs.expectation.meets.Needs as need
+use Rattle.std.proofs.Common.{not, sym, ap, ◌∙◌}
+use Rattle.rehearsal.specs.Cuts.{left}
+use Rattle.rehearsal.proofs.Meeting.{words_more, words-apart, words-short, words-over, not-not}
+use Rattle.rehearsal.proofs.expectation.meets.Goals as goal
 
-pub returns-then-not-word-meets : need.returns-then-not-word-meets
-returns-then-not-word-meets c =
+pub returns-then-not-word_meets : goal.returns-then-not-word_meets
+returns-then-not-word_meets c =
     sym
     (words-apart
-    (left (c .loop-word .wanted))
-    (left (c .loop-word .words))
-    (left (c .next .last .self))
-    (left (c .next-in-Some .last .self))
-    (c .in-Some .word .now)
-    (c .in-Some-next .got .now)
-    (c .in-Some .ensures tt)
-    (c .in-Some-next .ensures tt)
-    (sym (c .if-not-word-meets .ensures tt)))
-    ∙ c .loop-word .inv
+    (left c.loop-word.wanted)
+    (left c.loop-word.words)
+    (left c.next.new.self)
+    (left c.next-in-Some.new.self)
+    c.in-Some.word.now
+    c.in-Some-next.got.now
+    c.in-Some.ensures
+    c.in-Some-next.ensures
+    (sym c.if-not-word_meets.ensures))
+    ∙ c.loop-word.invariant
 
-pub loop-word-again : need.loop-word-again
-loop-word-again c =
-    words-more
-    (left (c .loop-word .wanted))
-    (left (c .loop-word .words))
-    (left (c .next .last .self))
-    (left (c .next-in-Some .last .self))
-    (c .in-Some .word .now)
-    (c .in-Some-next .got .now)
-    (c .in-Some .ensures tt)
-    (c .in-Some-next .ensures tt)
-    (sym (c .if-not-word-meets .ensures tt))
-    ∙ c .loop-word .inv
+pub loop-word-preserved : goal.loop-word-preserved
+loop-word-preserved c =
+    words_more
+    (left c.loop-word.wanted)
+    (left c.loop-word.words)
+    (left c.next.new.self)
+    (left c.next-in-Some.new.self)
+    c.in-Some.word.now
+    c.in-Some-next.got.now
+    c.in-Some.ensures
+    c.in-Some-next.ensures
+    (sym c.if-not-word_meets.ensures)
+    ∙ c.loop-word.invariant
 
-pub returns-in-None : need.returns-in-None
+pub returns-in-None : goal.returns-in-None
 returns-in-None c =
-    sym (words-short (left (c .loop-word .wanted)) (left (c .loop-word .words)) (left (c .next .last .self)) (c .in-Some .word .now) (c .in-Some .ensures tt) (c .in-None .ensures tt .0))
-    ∙ c .loop-word .inv
+    sym (words-short (left c.loop-word.wanted) (left c.loop-word.words) (left c.next.new.self) c.in-Some.word.now c.in-Some.ensures c.in-None.ensures.0)
+    ∙ c.loop-word.invariant
 
-pub returns : need.returns
+pub returns : goal.returns
 returns c =
-    sym (not-not (c .is-none .result))
-    ∙ ap not (sym (c .is-none .ensures))
-    ∙ words-over (left (c .loop-word .wanted)) (left (c .loop-word .words)) (left (c .next-2 .last .self)) (c .next-2 .result) (c .in-rest .ensures tt .0) (c .next-2 .ensures)
-    ∙ c .loop-word .inv
+    sym (not-not c.is_none.result)
+    ∙ ap not (sym c.is_none.ensures)
+    ∙ words-over (left c.loop-word.wanted) (left c.loop-word.words) (left c.next-2.new.self) c.next-2.result c.in_default.ensures.0 c.next-2.ensures
+    ∙ c.loop-word.invariant

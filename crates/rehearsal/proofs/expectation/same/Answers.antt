@@ -1,11 +1,10 @@
 -- The slices are compared byte by byte.
-use mathlib.Core.Path.{_≡_}
-use borrow.Author.Needs.{needs}
-use Rattle·std.specs.Orderings.{Decides}
-use Rattle·std.proofs.shelf.Equals.{matches-decides, sameBytes-decides}
-use Rattle·rehearsal·proofs.expectation.same.Needs as need
+use Rattle.std.proofs.Common.{◌≡◌, Decides, rules}
+use Rattle.std.proofs.lemmas.Slice.Eq.{slice_eq-Decides, bytes_eq-Decides}
+use Rattle.rehearsal.proofs.expectation.same.Goals as goal
+use Rattle.std.proofs.lemmas.Bool.Decides.{Decides-eqb}
 
-pub returns : need.returns
+pub returns : goal.returns
 returns c =
-    let d : Decides (c .eq .result) (c .args .one .now ≡ c .args .other .now) = matches-decides _ _ _ (c .eq .ensures) in
-    search (needs, sameBytes-decides)
+    let d : Decides c.eq.result (c.args.one.now ≡ c.args.other.now) = slice_eq-Decides Decides-eqb _ _ _ c.eq.ensures in
+    search (rules, bytes_eq-Decides)

@@ -1,6 +1,6 @@
 -- The theorem stands in Parsing.
-use Rattle·script·proofs.Parsing.{commands-parse}
-use Rattle·script·proofs.laws.printed_commands_parse.Needs as need
+use Rattle.script.proofs.Parsing.{commands-parse}
+use Rattle.script.proofs.laws.printed_commands_parse.Goals as goal
 
-pub returns : need.returns
+pub returns : goal.returns
 returns c = commands-parse

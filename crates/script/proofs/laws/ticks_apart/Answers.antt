@@ -1,6 +1,6 @@
 -- The theorem stands in Apart.
-use Rattle·script·proofs.Apart.{ticks-apart}
-use Rattle·script·proofs.laws.ticks_apart.Needs as need
+use Rattle.script.proofs.Apart.{ticks-apart}
+use Rattle.script.proofs.laws.ticks_apart.Goals as goal
 
-pub returns : need.returns
+pub returns : goal.returns
 returns c = ticks-apart

@@ -1,6 +1,6 @@
 -- The law as proved in Order.antt.
-use Rattle·virtual_time·proofs.Order.{behind-is-irreflexive}
-use Rattle·virtual_time·proofs.laws.behind_is_irreflexive.Needs as need
+use Rattle.virtual_time.proofs.Order.{behind-is-irreflexive}
+use Rattle.virtual_time.proofs.laws.behind_is_irreflexive.Goals as goal
 
-pub returns : need.returns
+pub returns : goal.returns
 returns c = behind-is-irreflexive

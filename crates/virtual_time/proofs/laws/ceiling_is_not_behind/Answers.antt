@@ -1,6 +1,6 @@
 -- The law as proved in Steps.antt.
-use Rattle·virtual_time·proofs.Steps.{ceiling-is-not-behind}
-use Rattle·virtual_time·proofs.laws.ceiling_is_not_behind.Needs as need
+use Rattle.virtual_time.proofs.Steps.{ceiling-is-not-behind}
+use Rattle.virtual_time.proofs.laws.ceiling_is_not_behind.Goals as goal
 
-pub returns : need.returns
+pub returns : goal.returns
 returns c = ceiling-is-not-behind

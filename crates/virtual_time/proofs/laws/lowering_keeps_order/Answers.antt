@@ -1,6 +1,6 @@
 -- The law as proved in Order.antt.
-use Rattle·virtual_time·proofs.Order.{lowering-keeps-order}
-use Rattle·virtual_time·proofs.laws.lowering_keeps_order.Needs as need
+use Rattle.virtual_time.proofs.Order.{lowering-keeps-order}
+use Rattle.virtual_time.proofs.laws.lowering_keeps_order.Goals as goal
 
-pub returns : need.returns
+pub returns : goal.returns
 returns c = lowering-keeps-order

@@ -1,6 +1,6 @@
 -- The law as proved in Lasting.antt.
-use Rattle·windows·proofs.Lasting.{open-until-the-end}
-use Rattle·windows·proofs.laws.open_until_the_end.Needs as need
+use Rattle.windows.proofs.Lasting.{open-until-the-end}
+use Rattle.windows.proofs.laws.open_until_the_end.Goals as goal
 
-pub returns : need.returns
+pub returns : goal.returns
 returns c = open-until-the-end

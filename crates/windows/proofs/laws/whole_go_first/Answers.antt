@@ -1,6 +1,6 @@
 -- The law as proved in Order.antt.
-use Rattle·windows·proofs.Order.{whole-go-first}
-use Rattle·windows·proofs.laws.whole_go_first.Needs as need
+use Rattle.windows.proofs.Order.{whole-go-first}
+use Rattle.windows.proofs.laws.whole_go_first.Goals as goal
 
-pub returns : need.returns
+pub returns : goal.returns
 returns c = whole-go-first

@@ -1,12 +1,12 @@
 -- The numbers of a tick say whose it was and who ran.
-use mathlib.Core.Path.{refl}
-use Rattle·export·specs.Wire.{entryOf}
-use Rattle·export·proofs.wire.WireEntry.ran.Needs as need
+use Rattle.std.proofs.Common.{refl}
+use Rattle.export.specs.Wire.{entry_of}
+use Rattle.export.proofs.wire.WireEntry.ran.Goals as goal
 
-pub returns-in-Some : need.returns-in-Some
-unfolding entryOf
-returns-in-Some c = rw (c .in-Some .is) refl
+pub returns-in-Some : goal.returns-in-Some
+unfolding entry_of
+returns-in-Some c = rw c.in-Some.is refl
 
-pub returns-in-None : need.returns-in-None
-unfolding entryOf
-returns-in-None c = rw (c .in-None .is) refl
+pub returns-in-None : goal.returns-in-None
+unfolding entry_of
+returns-in-None c = rw c.in-None.is refl

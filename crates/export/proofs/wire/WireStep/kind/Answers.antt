@@ -1,17 +1,17 @@
 -- By the number of the kind.
-use mathlib.Core.Path.{refl}
-use Rattle·std.proofs.shelf.Tests.{ne-eqb}
-use Rattle·export·specs.Wire.{kindOf}
-use Rattle·export·proofs.wire.WireStep.kind.Needs as need
+use Rattle.std.proofs.Common.{refl}
+use Rattle.std.proofs.lemmas.Bool.{ne_eqb}
+use Rattle.export.specs.Wire.{kind_of}
+use Rattle.export.proofs.wire.WireStep.kind.Goals as goal
 
-pub returns-then-self-eq1 : need.returns-then-self-eq1
-unfolding kindOf
-returns-then-self-eq1 c = rw (c .if-self-eq1 .taken) refl
+pub returns-then-self-eq1 : goal.returns-then-self-eq1
+unfolding kind_of
+returns-then-self-eq1 c = rw c.if-self-eq1.true refl
 
-pub returns-then-self-eq2 : need.returns-then-self-eq2
-unfolding kindOf
-returns-then-self-eq2 c = rw (c .if-self-eq2 .taken) refl
+pub returns-then-self-eq2 : goal.returns-then-self-eq2
+unfolding kind_of
+returns-then-self-eq2 c = rw c.if-self-eq2.true refl
 
-pub returns : need.returns
-unfolding kindOf
-returns c = rw (ne-eqb (c .args .self .what) 1 (c .if-self-eq1 .left), ne-eqb (c .args .self .what) 2 (c .if-self-eq2 .left)) refl
+pub returns : goal.returns
+unfolding kind_of
+returns c = rw (ne_eqb c.args.self.what 1 c.if-self-eq1.false, ne_eqb c.args.self.what 2 c.if-self-eq2.false) refl

@@ -1,12 +1,11 @@
 -- It is over where the script or the room for entries is.
-use mathlib.Core.Path.{refl}
-use native.Mathlib.Omega.{arith}
-use Rattle·memory·proofs.lent.LentRecorder.next.Needs as need
-use Rattle·memory·proofs.lent.LentRecorder.next.Needs.{then-self·by·then-self, then-self·by·else-self·then-self-2}
+use Rattle.std.proofs.Common.{refl, arith}
+use Rattle.memory.proofs.lent.LentRecorder.next.Goals as goal
+use Rattle.memory.proofs.lent.LentRecorder.next.Goals.{then-self-via-then-self, then-self-via-else-self+then-self-2}
 
-pub returns-then-self : need.returns-then-self
+pub returns-then-self : goal.returns-then-self
 returns-then-self c =
     record {
       same = refl;
-      asks = elim (c .then-self .came) [ then-self·by·then-self w ↦ omega arith | then-self·by·else-self·then-self-2 w ↦ omega arith ];
+      asks = elim c.then-self.branch [ then-self-via-then-self w ↦ omega arith | then-self-via-else-self+then-self-2 w ↦ omega arith ];
     }

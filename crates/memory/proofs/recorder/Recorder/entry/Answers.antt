@@ -1,16 +1,15 @@
 -- Below what is used an entry of the log is one of the entries.
-use mathlib.Core.Path.{sym}
-use native.Mathlib.Omega.{arith}
-use Rattle·std.proofs.shelf.Lists.{length-take-le, getD-take}
-use Rattle·memory·specs.Run.{blank}
-use Rattle·memory·proofs.recorder.Recorder.entry.Needs as need
+use Rattle.std.proofs.Common.{sym, arith}
+use Rattle.std.proofs.lemmas.List.{length-take-le, get_or-take}
+use Rattle.memory.specs.Run.{blank}
+use Rattle.memory.proofs.recorder.Recorder.entry.Goals as goal
 
-pub returns-then-k-self : need.returns-then-k-self
+pub returns-then-k-self : goal.returns-then-k-self
 returns-then-k-self c =
-    omega (arith, length-take-le (c .args .self .now .used) (c .args .self .now .log) (omega arith))
+    omega (arith, length-take-le c.args.self.now.used c.args.self.now.log (omega arith))
 
-pub returns : need.returns
+pub returns : goal.returns
 returns c = (
-  omega (arith, length-take-le (c .args .self .now .used) (c .args .self .now .log) (omega arith)),
-  sym (getD-take (c .args .self .now .used) (c .args .self .now .log) (c .args .k) blank (c .if-k-self .left)),
+  omega (arith, length-take-le c.args.self.now.used c.args.self.now.log (omega arith)),
+  sym (get_or-take c.args.self.now.used c.args.self.now.log c.args.k blank c.if-k-self.false),
 )

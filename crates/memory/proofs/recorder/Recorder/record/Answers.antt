@@ -1,32 +1,24 @@
 -- One more entry at the end, which the rules allow, keeps the log legal.
-use mathlib.Core.Path.{refl}
-use native.Mathlib.Omega.{arith}
-use lib.ListN.{take, length-set}
-use Rattle·std.proofs.shelf.Lists.{take-more-set}
-use Rattle·sched.specs.House.{empty}
-use Rattle·memory·proofs.Runs.{legal-push}
-use Rattle·memory·proofs.recorder.Recorder.record.Needs as need
+use Rattle.std.proofs.Common.{take, refl, arith, length-set}
+use Rattle.std.proofs.lemmas.List.{take_more_set}
+use Rattle.sched.specs.House.{empty}
+use Rattle.memory.proofs.Runs.{legal-push}
+use Rattle.memory.proofs.recorder.Recorder.record.Goals as goal
 
-pub ghost-self : need.ghost-self
-ghost-self c = (
-  rw length-set (c .args .self .now .sized),
-  (
-    c .args .self .now .within,
-    (
-      rw length-set (omega arith),
-      (
-        rw (take-more-set (c .args .self .now .log) (c .args .self .now .used) (c .args .entry) (c .pre .0))
-            (legal-push empty (take (c .args .self .now .used) (c .args .self .now .log)) (c .args .entry) (c .args .self .now .lawful) (c .pre .1)),
-        tt,
-      ),
-    ),
-  ),
-)
+pub invariant_of-self : goal.invariant_of-self
+invariant_of-self c =
+    record {
+      sized = rw length-set c.args.self.now.sized;
+      within = c.args.self.now.within;
+      room = rw length-set (omega arith);
+      lawful = rw (take_more_set c.args.self.now.log c.args.self.now.used c.args.entry c.requires.0)
+          (legal-push empty (take c.args.self.now.used c.args.self.now.log) c.args.entry c.args.self.now.lawful c.requires.1);
+    }
 
-pub returns : need.returns
+pub returns : goal.returns
 returns c =
     record {
-      after = take-more-set (c .args .self .now .log) (c .args .self .now .used) (c .args .entry) (c .pre .0);
+      after = take_more_set c.args.self.now.log c.args.self.now.used c.args.entry c.requires.0;
       used = refl;
-      len = length-set (c .args .self .now .log) (c .args .self .now .used) (c .args .entry);
+      len = length-set c.args.self.now.log c.args.self.now.used c.args.entry;
     }

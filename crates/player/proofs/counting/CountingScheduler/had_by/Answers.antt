@@ -1,9 +1,7 @@
 -- Past the last place there is no task.
-use mathlib.Core.Path.{sym}
-use native.Mathlib.Omega.{arith}
-use Rattle·std.proofs.shelf.Lists.{getD-past}
-use Rattle·std.specs.declared.option.Option.the-variants.{None}
-use Rattle·player·proofs.counting.CountingScheduler.had_by.Needs as need
+use Rattle.std.proofs.Common.{None, sym, arith}
+use Rattle.std.proofs.lemmas.List.{get_or_past}
+use Rattle.player.proofs.counting.CountingScheduler.had_by.Goals as goal
 
-pub returns-then-i-ge64 : need.returns-then-i-ge64
-returns-then-i-ge64 c = sym (getD-past (c .args .self .now .had) (c .args .i) None (omega arith))
+pub returns-then-i-ge64 : goal.returns-then-i-ge64
+returns-then-i-ge64 c = sym (get_or_past c.args.self.now.had c.args.i None (omega arith))

@@ -1,7 +1,7 @@
 -- The head is who comes after 64 in the ring.
-use native.Mathlib.Omega.{arith}
-use Rattle·queues·proofs.Told.{front-told}
-use Rattle·queues·proofs.fifo.Queues.front.Needs as need
+use Rattle.std.proofs.Common.{arith}
+use Rattle.queues.proofs.Told.{front-told}
+use Rattle.queues.proofs.fifo.Queues.front.Goals as goal
 
-pub returns : need.returns
-returns c f h = front-told h (c .args .q .index) (c .index .result) _ (c .new .result) (c .args .q .within) (c .index .ensures .value) (c .new .ensures) (omega arith)
+pub returns : goal.returns
+returns c f h = front-told h c.args.q.index c.index.result _ c.new.result c.args.q.within c.index.ensures.value c.new.ensures (omega arith)

@@ -1,8 +1,8 @@
 -- Both writes, one after the other.
-use mathlib.Core.Path.{ap, _∙_}
-use Rattle·queues·specs.Writes.{joined, setBefore}
-use Rattle·queues·proofs.fifo.Queues.join.Needs as need
+use Rattle.std.proofs.Common.{ap, ◌∙◌}
+use Rattle.queues.specs.Writes.{joined, set_before}
+use Rattle.queues.proofs.fifo.Queues.join.Goals as goal
 
-pub returns : need.returns
+pub returns : goal.returns
 unfolding joined
-returns c = c .set-prev .ensures ∙ ap (λ s. setBefore (c .args .q .index) (c .args .b) (c .args .a) s) (c .set-next .ensures)
+returns c = c.set_prev.ensures ∙ ap (λ s. set_before c.args.q.index c.args.b c.args.a s) c.set_next.ensures

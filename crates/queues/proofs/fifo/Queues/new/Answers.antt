@@ -1,7 +1,7 @@
 -- Every link and every pair of ends is the one that the array repeats.
-use native.Mathlib.Omega.{arith}
-use Rattle·queues·proofs.Told.{empty-holds}
-use Rattle·queues·proofs.fifo.Queues.new.Needs as need
+use Rattle.std.proofs.Common.{arith}
+use Rattle.queues.proofs.Told.{empty_holds}
+use Rattle.queues.proofs.fifo.Queues.new.Goals as goal
 
-pub returns : need.returns
-returns c = empty-holds _ _ (omega arith) (omega arith) (omega arith)
+pub returns : goal.returns
+returns c = empty_holds _ _ (omega arith) (omega arith) (omega arith)

@@ -1,17 +1,16 @@
 -- Who has a place has its ring's next behind it; who has none stands in no queue.
-use mathlib.Core.Path.{refl}
-use native.Mathlib.Omega.{arith}
-use Rattle·queues·proofs.Told.{next-told, none-behind, some-place}
-use Rattle·queues·proofs.fifo.Queues.next.Needs as need
+use Rattle.std.proofs.Common.{refl, arith}
+use Rattle.queues.proofs.Told.{next-told, none-behind, some-place}
+use Rattle.queues.proofs.fifo.Queues.next.Goals as goal
 
-pub returns-then-link-ge-NONE : need.returns-then-link-ge-NONE
+pub returns-then-link-ge-NONE : goal.returns-then-link-ge-NONE
 returns-then-link-ge-NONE c = record {
-  behind = λ f h q xs ys e. none-behind h q (c .args .i .index) (c .index .result) _ xs ys e (c .index .ensures .value) (c .if-link-ge-NONE .taken) (omega arith);
+  behind = λ f h q xs ys e. none-behind h q c.args.i.index c.index.result _ xs ys e c.index.ensures.value c.if-link-ge-NONE.true (omega arith);
   free = λ f h free. refl;
 }
 
-pub returns : need.returns
+pub returns : goal.returns
 returns c = record {
-  behind = λ f h q xs ys e. next-told h q (c .args .i .index) (c .index .result) _ xs ys (c .new .result) e (c .index .ensures .value) (c .new .ensures) (omega arith);
-  free = λ f h free. absurd (some-place h (c .args .i .index) (c .index .result) _ (c .args .i .within) (c .index .ensures .value) (c .if-link-ge-NONE .left) (omega arith) free);
+  behind = λ f h q xs ys e. next-told h q c.args.i.index c.index.result _ xs ys c.new.result e c.index.ensures.value c.new.ensures (omega arith);
+  free = λ f h free. absurd (some-place h c.args.i.index c.index.result _ c.args.i.within c.index.ensures.value c.if-link-ge-NONE.false (omega arith) free);
 }

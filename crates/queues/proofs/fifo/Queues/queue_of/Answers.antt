@@ -1,7 +1,7 @@
 -- The place of a member is the number of its queue.
-use native.Mathlib.Omega.{arith}
-use Rattle·queues·proofs.Told.{queue-told}
-use Rattle·queues·proofs.fifo.Queues.queue_of.Needs as need
+use Rattle.std.proofs.Common.{arith}
+use Rattle.queues.proofs.Told.{queue-told}
+use Rattle.queues.proofs.fifo.Queues.queue_of.Goals as goal
 
-pub returns : need.returns
-returns c f h = queue-told h (c .args .i .index) (c .index .result) _ (c .new .result) (c .args .i .within) (c .index .ensures .value) (c .new .ensures) (omega arith)
+pub returns : goal.returns
+returns c f h = queue-told h c.args.i.index c.index.result _ c.new.result c.args.i.within c.index.ensures.value c.new.ensures (omega arith)

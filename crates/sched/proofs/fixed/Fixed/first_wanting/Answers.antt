@@ -1,32 +1,31 @@
-use mathlib.Core.Path.{_≡_, sym, subst, _∙_}
-use native.Mathlib.Omega.{arith}
-use Rattle·queues.specs.Members as member
-use Rattle·queues.specs.Outcomes.{First}
-use Rattle·sched·specs.Midtick.{asking}
-use Rattle·sched·proofs.Walks.{Walked, walk-at, walk-on, walk-found, walk-end, walk-all, queue-few}
-use Rattle·sched·proofs.fixed.Fixed.first_wanting.Needs as need
+use Rattle.std.proofs.Common.{◌≡◌, sym, ◌∙◌, subst, arith}
+use Rattle.queues.specs.Members as member
+use Rattle.queues.specs.Outcomes.{First}
+use Rattle.sched.specs.Midtick.{asking}
+use Rattle.sched.proofs.Walks.{Walked, walk_at, walk-on, walk-found, walk_end, walk-all, queue-few}
+use Rattle.sched.proofs.fixed.Fixed.first_wanting.Goals as goal
 
-pub returns-then-of : need.returns-then-of
+pub returns-then-of : goal.returns-then-of
 returns-then-of c f h holds asks =
-    let starts = subst (λ q. First (f q) (c .front-at .result)) (c .of-rank .ensures) (c .front-at .ensures f holds) in
-    walk-found (f (c .args .rank .value)) (asking h) (c .loop-k .k) (c .loop-k .at) (c .in-Some .i) (c .in-Some .is) (sym (c .of .ensures ∙ asks .at (c .in-Some .i .index)) ∙ c .if-of .taken)
-    (c .loop-k .inv f h (c .args .rank .value) holds asks starts)
+    let starts = subst (λ q. First (f q) c.front-at.result) c.of_rank.ensures (c.front-at.ensures f holds) in
+    walk-found (f c.args.rank.value) (asking h) c.loop-k.k c.loop-k.at c.in-Some.i c.in-Some.is (sym (c.of.ensures ∙ asks.at c.in-Some.i.index) ∙ c.if-of.true)
+    (c.loop-k.invariant f h c.args.rank.value holds asks starts)
 
-pub returns-in-None : need.returns-in-None
+pub returns-in-None : goal.returns-in-None
 returns-in-None c f h holds asks =
-    let starts = subst (λ q. First (f q) (c .front-at .result)) (c .of-rank .ensures) (c .front-at .ensures f holds) in
-    walk-end (f (c .args .rank .value)) (asking h) (c .loop-k .k) (c .loop-k .at) (c .in-None .is) (c .loop-k .inv f h (c .args .rank .value) holds asks starts)
+    let starts = subst (λ q. First (f q) c.front-at.result) c.of_rank.ensures (c.front-at.ensures f holds) in
+    walk_end (f c.args.rank.value) (asking h) c.loop-k.k c.loop-k.at c.in-None.is (c.loop-k.invariant f h c.args.rank.value holds asks starts)
 
-pub loop-k-again : need.loop-k-again
-loop-k-again c f h q holds asks starts =
-    let w = c .loop-k .inv f h q holds asks starts in
-    walk-on (f q) (asking h) (c .loop-k .k) (c .loop-k .at) (c .next-at .result) (c .in-Some .i) (c .in-Some .is) (sym (c .of .ensures ∙ asks .at (c .in-Some .i .index)) ∙ c .if-of .left) w
-    (c .next-at .ensures .behind f holds q (w .done) (member.rest (w .left)) (walk-at (f q) (asking h) (c .loop-k .k) (c .loop-k .at) (c .in-Some .i) (c .in-Some .is) w))
+pub loop-k-preserved : goal.loop-k-preserved
+loop-k-preserved c f h q holds asks starts =
+    let w = c.loop-k.invariant f h q holds asks starts in
+    walk-on (f q) (asking h) c.loop-k.k c.loop-k.at c.next-at.result c.in-Some.i c.in-Some.is (sym (c.of.ensures ∙ asks.at c.in-Some.i.index) ∙ c.if-of.false) w
+    (c.next-at.ensures.behind f holds q w.done (member.rest w.left) (walk_at (f q) (asking h) c.loop-k.k c.loop-k.at c.in-Some.i c.in-Some.is w))
 
-pub returns : need.returns
+pub returns : goal.returns
 returns c f h holds asks =
-    let starts = subst (λ q. First (f q) (c .front-at .result)) (c .of-rank .ensures) (c .front-at .ensures f holds) in
-    let e : c .loop-k .k ≡ 64 = omega arith in
-    let w = c .loop-k .inv f h (c .args .rank .value) holds asks starts in
-    walk-all (f (c .args .rank .value)) (asking h) (c .loop-k .at) (queue-few (c .args .self .now .turn) f (c .args .rank .value) holds)
-    (subst (λ k. Walked (f (c .args .rank .value)) (asking h) k (c .loop-k .at)) e w)
+    let starts = subst (λ q. First (f q) c.front-at.result) c.of_rank.ensures (c.front-at.ensures f holds) in
+    let e : c.loop-k.k ≡ 64 = omega arith in
+    let w = c.loop-k.invariant f h c.args.rank.value holds asks starts in
+    walk-all (f c.args.rank.value) (asking h) c.loop-k.at (queue-few c.args.self.now.turn f c.args.rank.value holds)
+    (subst (λ k. Walked (f c.args.rank.value) (asking h) k c.loop-k.at) e w)

@@ -1,20 +1,20 @@
-use mathlib.Core.Path.{ap}
-use Rattle·sched·specs.House.{isFixed}
-use Rattle·sched·specs.Stores.{kindOf, taskPlace}
-use Rattle·sched·proofs.TurnKept.{ranks, made-pushed, made-other}
-use Rattle·sched·proofs.fixed.Fixed.made.Needs as need
+use Rattle.std.proofs.Common.{ap}
+use Rattle.sched.specs.House.{is_fixed}
+use Rattle.sched.specs.Stores.{kind_of, task_place}
+use Rattle.sched.proofs.TurnKept.{ranks, made-pushed, made_other}
+use Rattle.sched.proofs.fixed.Fixed.made.Goals as goal
 
-pub returns-in-Reserved : need.returns-in-Reserved
-unfolding kindOf isFixed
+pub returns-in-Reserved : goal.returns-in-Reserved
+unfolding kind_of is_fixed
 returns-in-Reserved c place turn h none =
-    made-other place turn (c .args .i .index) (taskPlace (c .args .promise)) none (c .args .self .now .turn) (ap (λ p. isFixed (taskPlace p)) (c .in-Reserved .is)) h
+    made_other place turn c.args.i.index (task_place c.args.promise) none c.args.self.now.turn (ap (λ p. is_fixed (task_place p)) c.in-Reserved.is) h
 
-pub returns-in-Fixed : need.returns-in-Fixed
+pub returns-in-Fixed : goal.returns-in-Fixed
 returns-in-Fixed c place turn h none =
-    made-pushed place turn (c .push-back-pushed .last .self) (c .args .i .index) (c .of-rank .result .index) (c .args .promise) (c .in-Fixed .rank) (c .push-back-pushed .result) (c .in-Fixed .is) (c .of-rank .ensures) none
-    (c .push-back-pushed .ensures .after (ranks place turn) h)
+    made-pushed place turn c.push_back-pushed.new.self c.args.i.index c.of_rank.result.index c.args.promise c.in-Fixed.rank c.push_back-pushed.result c.in-Fixed.is c.of_rank.ensures none
+    (c.push_back-pushed.ensures.after (ranks place turn) h)
 
-pub returns-in-Fair : need.returns-in-Fair
-unfolding kindOf isFixed
+pub returns-in-Fair : goal.returns-in-Fair
+unfolding kind_of is_fixed
 returns-in-Fair c place turn h none =
-    made-other place turn (c .args .i .index) (taskPlace (c .args .promise)) none (c .args .self .now .turn) (ap (λ p. isFixed (taskPlace p)) (c .in-Fair .is)) h
+    made_other place turn c.args.i.index (task_place c.args.promise) none c.args.self.now.turn (ap (λ p. is_fixed (task_place p)) c.in-Fair.is) h

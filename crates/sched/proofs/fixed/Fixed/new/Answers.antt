@@ -1,6 +1,6 @@
-use Rattle·sched·specs.Stores.{keep}
-use Rattle·sched·proofs.fixed.Fixed.new.Needs as need
+use Rattle.sched.specs.Stores.{keep}
+use Rattle.sched.proofs.fixed.Fixed.new.Goals as goal
 
-pub returns : need.returns
+pub returns : goal.returns
 unfolding keep
-returns c = c .new .ensures
+returns c = c.new.ensures

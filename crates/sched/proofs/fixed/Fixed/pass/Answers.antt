@@ -1,15 +1,15 @@
-use Rattle·sched·specs.Stores.{ownerOf}
-use Rattle·queues.specs.Rings as queue
-use Rattle·sched·proofs.TurnKept.{ranks, passed-moved}
-use Rattle·sched·proofs.fixed.Fixed.pass.Needs as need
+use Rattle.sched.specs.Stores.{owner_of}
+use Rattle.queues.specs.Rings as queue
+use Rattle.sched.proofs.TurnKept.{ranks, passed-moved}
+use Rattle.sched.proofs.fixed.Fixed.pass.Goals as goal
 
-pub returns-in-Some : need.returns-in-Some
-unfolding ownerOf
+pub returns-in-Some : goal.returns-in-Some
+unfolding owner_of
 returns-in-Some c place turn h once =
-    rw (c .in-Some .is)
-    (passed-moved place turn (c .args .self .now .turn) (c .move-to-back-moved .last .self) (c .in-Some .i .index) (c .move-to-back-moved .result) once h
-    (c .move-to-back-moved .ensures .after (ranks place turn) h) (c .move-to-back-moved .ensures .same))
+    rw c.in-Some.is
+    (passed-moved place turn c.args.self.now.turn c.move_to_back-moved.new.self c.in-Some.i.index c.move_to_back-moved.result once h
+    (c.move_to_back-moved.ensures.after (ranks place turn) h) c.move_to_back-moved.ensures.same)
 
-pub returns-in-None : need.returns-in-None
-unfolding ownerOf
-returns-in-None c place turn h once = rw (c .in-None .is) h
+pub returns-in-None : goal.returns-in-None
+unfolding owner_of
+returns-in-None c place turn h once = rw c.in-None.is h

@@ -1,24 +1,22 @@
-use mathlib.Core.Path.{sym, ap, _∙_}
-use mathlib.Core.Logic.{⊎-elim}
-use native.Mathlib.Omega.{arith}
-use Rattle·std.proofs.shelf.Tests.{and-left, cases-eq, cases-lt}
-use Rattle·sched·specs.House.{wants, inTurn, rankWants}
-use Rattle·sched·specs.Stores.{ofRank}
-use Rattle·sched·proofs.RankTurns.{first-in-rank, no-rank, owner-none}
-use Rattle·sched·proofs.Walks.{turn-empty}
-use Rattle·sched·proofs.fixed.FixedClass.candidate.Needs as need
+use Rattle.std.proofs.Common.{sym, ap, ◌∙◌, ⊎_elim, arith}
+use Rattle.std.proofs.lemmas.Bool.{and_left, cases_eq, cases_lt}
+use Rattle.sched.specs.House.{wants, in_turn, rank_wants}
+use Rattle.sched.specs.Stores.{of_rank}
+use Rattle.sched.proofs.RankTurns.{first-in-rank, no-rank, owner-none}
+use Rattle.sched.proofs.Walks.{turn-empty}
+use Rattle.sched.proofs.fixed.FixedClass.candidate.Goals as goal
 
-pub returns-then-is-some : need.returns-then-is-some
-returns-then-is-some c h none slots asks (turn, once) =
-    first-in-rank h once (c .loop-k .k) (c .first-of-first .result) (omega (arith, c .ranks-k-end .ensures)) (sym (c .is-some .ensures) ∙ c .if-is-some .taken) (c .first-of-first .ensures h turn asks (omega (arith, c .ranks-k-end .ensures)))
-    (c .loop-k .inv h asks turn)
+pub returns-then-is_some : goal.returns-then-is_some
+returns-then-is_some c h none slots asks (turn, once) =
+    first-in-rank h once c.loop-k.k c.first_of-first.result (omega (arith, c.ranks-k-end.ensures)) (sym c.is_some.ensures ∙ c.if-is_some.true) (c.first_of-first.ensures h turn asks (omega (arith, c.ranks-k-end.ensures)))
+    (c.loop-k.invariant h asks turn)
 
-pub loop-k-again : need.loop-k-again
-loop-k-again c h asks turn r l =
-    ⊎-elim (λ e. ap (λ k. inTurn (rankWants h k) (h .turn)) e ∙ sym (c .first-of-first .ensures h turn asks (omega (arith, c .ranks-k-end .ensures))) ∙ owner-none (c .first-of-first .result) (sym (c .is-some .ensures) ∙ c .if-is-some .left))
-    (λ ne. c .loop-k .inv h asks turn r (omega arith)) (cases-eq r (c .loop-k .k))
+pub loop-k-preserved : goal.loop-k-preserved
+loop-k-preserved c h asks turn r l =
+    ⊎_elim (λ e. ap (λ k. in_turn (rank_wants h k) h.turn) e ∙ sym (c.first_of-first.ensures h turn asks (omega (arith, c.ranks-k-end.ensures))) ∙ owner-none c.first_of-first.result (sym c.is_some.ensures ∙ c.if-is_some.false))
+    (λ ne. c.loop-k.invariant h asks turn r (omega arith)) (cases_eq r c.loop-k.k)
 
-pub returns : need.returns
+pub returns : goal.returns
 returns c h none slots asks (turn, once) =
-    no-rank h once (c .args .tasks .now) slots
-    (λ r _. ⊎-elim (λ l. c .loop-k .inv h asks turn r (omega (arith, c .ranks-k-end .ensures, none .fixed .within))) (λ l. turn-empty (rankWants h r) (h .turn) (λ i. and-left (ofRank (h .place) r i) (wants h i) (none .fixed .none r i l))) (cases-lt r (c .args .tasks .now .tops .ranks)))
+    no-rank h once c.args.tasks.now slots
+    (λ r _. ⊎_elim (λ l. c.loop-k.invariant h asks turn r (omega (arith, c.ranks-k-end.ensures, none.fixed.within))) (λ l. turn-empty (rank_wants h r) h.turn (λ i. and_left (of_rank h.place r i) (wants h i) (none.fixed.none r i l))) (cases_lt r c.args.tasks.now.tops.ranks))

@@ -1,13 +1,12 @@
-use mathlib.Core.Path.{refl, sym, ap, _∙_}
-use mathlib.Core.Bool.{not}
-use Rattle·sched·proofs.Guarded.{let-through}
-use Rattle·sched·proofs.guard.Guard.call.Needs as need
+use Rattle.std.proofs.Common.{not, sym, refl, ap, ◌∙◌}
+use Rattle.sched.proofs.Guarded.{let_through}
+use Rattle.sched.proofs.guard.Guard.call.Goals as goal
 
-pub returns : need.returns
+pub returns : goal.returns
 returns c =
     record {
       lent = refl;
       ids = (refl, refl);
-      lets = sym (ap not (sym (c .concerns .ensures) ∙ c .if-concerns .left));
-      answered = let-through (c .args .self .now .scheduler .now) (c .call .last .self) (c .args .self .now .task .index) (c .args .c) (c .call .result) (sym (c .concerns .ensures) ∙ c .if-concerns .left) (c .call .ensures .answered);
+      lets = sym (ap not (sym c.concerns.ensures ∙ c.if-concerns.false));
+      answered = let_through c.args.self.now.scheduler.now c.call.new.self c.args.self.now.task.index c.args.c c.call.result (sym c.concerns.ensures ∙ c.if-concerns.false) c.call.ensures.answered;
     }

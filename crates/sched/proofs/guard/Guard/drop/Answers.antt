@@ -1,8 +1,8 @@
-use Rattle·sched·specs.Held.{locksOf}
-use Rattle·sched·proofs.Guarded.{gave}
-use Rattle·sched·proofs.guard.Guard.drop.Needs as need
+use Rattle.sched.specs.Held.{locks_of}
+use Rattle.sched.proofs.Guarded.{gave}
+use Rattle.sched.proofs.guard.Guard.drop.Goals as goal
 
-pub returns : need.returns
+pub returns : goal.returns
 returns c =
-    let self = c .args .self in
-    record { given = gave (self .scheduler .now) (c .unlock-all .last .self) (self .task .index) (locksOf (self .locks)) (c .unlock-all .ensures) }
+    let self = c.args.self in
+    record { given = gave self.scheduler.now c.unlock_all.new.self self.task.index (locks_of self.locks) c.unlock_all.ensures }

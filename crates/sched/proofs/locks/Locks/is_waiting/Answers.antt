@@ -1,8 +1,8 @@
 -- Who stands in a row waits, and nobody else does.
-use mathlib.Core.Path.{_∙_}
-use Rattle·sched·proofs.Waiting.{waits-told}
-use Rattle·sched·proofs.locks.Locks.is_waiting.Needs as need
+use Rattle.std.proofs.Common.{◌∙◌}
+use Rattle.sched.proofs.Waiting.{waits-told}
+use Rattle.sched.proofs.locks.Locks.is_waiting.Goals as goal
 
-pub returns : need.returns
+pub returns : goal.returns
 returns c h k =
-    c .is-some .ensures ∙ waits-told h (k .comes) (c .args .i .index) (c .queue-of .result) (c .queue-of .ensures (h .row) (k .rows))
+    c.is_some.ensures ∙ waits-told h k.comes c.args.i.index c.queue_of.result (c.queue_of.ensures h.row k.rows)

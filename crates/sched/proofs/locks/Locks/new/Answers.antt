@@ -1,8 +1,8 @@
-use Rattle·std.specs.declared.option.Option.the-variants.{None}
-use Rattle·sched·specs.Stores.{ownerOf}
-use Rattle·sched·proofs.Arrays.{reads-replicate}
-use Rattle·sched·proofs.locks.Locks.new.Needs as need
+use Rattle.std.proofs.Common.{None}
+use Rattle.sched.specs.Stores.{owner_of}
+use Rattle.sched.proofs.Arrays.{reads-replicate}
+use Rattle.sched.proofs.locks.Locks.new.Goals as goal
 
-pub returns : need.returns
-unfolding ownerOf
-returns c = record { owners = reads-replicate ownerOf None; rows = c .new .ensures }
+pub returns : goal.returns
+unfolding owner_of
+returns c = record { owners = reads-replicate owner_of None; rows = c.new.ensures }

@@ -1,7 +1,7 @@
-use Rattle·std.specs.declared.option.Option.the-variants.{None}
-use Rattle·sched·specs.Stores.{ownerOf}
-use Rattle·sched·proofs.Arrays.{reads-at}
-use Rattle·sched·proofs.locks.Locks.owner.Needs as need
+use Rattle.std.proofs.Common.{None}
+use Rattle.sched.specs.Stores.{owner_of}
+use Rattle.sched.proofs.Arrays.{reads_at}
+use Rattle.sched.proofs.locks.Locks.owner.Goals as goal
 
-pub returns : need.returns
-returns c h k = reads-at ownerOf None (c .args .m .index) (c .index .result) _ (c .index .ensures .value) (c .args .m .within) (k .owners)
+pub returns : goal.returns
+returns c h k = reads_at owner_of None c.args.m.index c.index.result _ c.index.ensures.value c.args.m.within k.owners

@@ -1,32 +1,25 @@
 -- The owners that are read are those of the house.
-use mathlib.Core.Path.{_≡_, refl, sym, ap, _∙_}
-use Prim.Native.Nat.{suc}
-use native.Mathlib.Omega.{arith}
-use borrow.Author.Count.{below-more}
-use borrow.Author.Needs.{needs}
-use lib.Dec.{eqb}
-use lib.ListN.{getD}
-use Rattle·std.specs.declared.option.Option.the-variants.{None}
-use Rattle·std.proofs.shelf.Lists.{getD-default}
-use Rattle·sched·specs.Stores.{ownerOf}
-use Rattle·sched·proofs.Arrays.{reads-at}
-use Rattle·sched·proofs.Bounded.{some-from, none-from}
-use Rattle·sched·proofs.locks.Locks.owns_any.Needs as need
+use Rattle.std.proofs.Common.{◌≡◌, suc, eqb, get_or, None, sym, refl, ap, ◌∙◌, arith, rules, below_more}
+use Rattle.std.proofs.lemmas.List.{get_or_default}
+use Rattle.sched.specs.Stores.{owner_of}
+use Rattle.sched.proofs.Arrays.{reads_at}
+use Rattle.sched.proofs.Bounded.{some-from, none_from}
+use Rattle.sched.proofs.locks.Locks.owns_any.Goals as goal
 
-pub loop-m-holds : need.loop-m-holds
-loop-m-holds c k l = absurd (omega arith)
+pub loop-m-init : goal.loop-m-init
+loop-m-init c k l = absurd (omega arith)
 
-pub loop-m-again : need.loop-m-again
-loop-m-again c =
-    let xs = c .args .self .now .owners in
-    let same : getD xs (c .loop-m .m) (c .index-self-m .result) ≡ getD xs (c .loop-m .m) None = search (needs, getD-default) in
-    below-more _ _ (c .loop-m .inv) (ap (λ o. eqb (ownerOf o) (suc (c .args .i .index))) (sym same) ∙ (sym (c .is-owned-by .ensures) ∙ c .if-is-owned-by .left))
+pub loop-m-preserved : goal.loop-m-preserved
+loop-m-preserved c =
+    let xs = c.args.self.now.owners in
+    let same : get_or xs c.loop-m.m c.index-self-m.result ≡ get_or xs c.loop-m.m None = search (rules, get_or_default) in
+    below_more _ _ c.loop-m.invariant (ap (λ o. eqb (owner_of o) (suc c.args.i.index)) (sym same) ∙ (sym c.is_owned_by.ensures ∙ c.if-is_owned_by.false))
 
-pub returns-then-is-owned-by : need.returns-then-is-owned-by
-returns-then-is-owned-by c h k =
-    let here = reads-at ownerOf None (c .loop-m .m) (c .loop-m .m) (c .index-self-m .result) refl (c .loop-m-test .taken) (k .owners) in
-    sym (some-from _ 64 (c .loop-m .m) (c .loop-m-test .taken) (ap (λ n. eqb n (suc (c .args .i .index))) (sym here) ∙ (sym (c .is-owned-by .ensures) ∙ c .if-is-owned-by .taken)))
+pub returns-then-is_owned_by : goal.returns-then-is_owned_by
+returns-then-is_owned_by c h k =
+    let here = reads_at owner_of None c.loop-m.m c.loop-m.m c.index-self-m.result refl c.loop-m-test.true k.owners in
+    sym (some-from _ 64 c.loop-m.m c.loop-m-test.true (ap (λ n. eqb n (suc c.args.i.index)) (sym here) ∙ (sym c.is_owned_by.ensures ∙ c.if-is_owned_by.true)))
 
-pub returns : need.returns
+pub returns : goal.returns
 returns c h k =
-    sym (none-from _ 64 (λ m l. ap (λ n. eqb n (suc (c .args .i .index))) (sym (k .owners .at m)) ∙ c .loop-m .inv m (omega arith)))
+    sym (none_from _ 64 (λ m l. ap (λ n. eqb n (suc c.args.i.index)) (sym (k.owners.at m)) ∙ c.loop-m.invariant m (omega arith)))

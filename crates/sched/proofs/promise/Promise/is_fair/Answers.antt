@@ -1,17 +1,17 @@
-use mathlib.Core.Path.{refl, sym}
-use Rattle·std.proofs.shelf.Tests.{lt-ltb}
-use Rattle·sched·specs.House.{weightOf}
-use Rattle·sched·specs.Stores.{kindOf}
-use Rattle·sched·proofs.promise.Promise.is_fair.Needs as need
+use Rattle.std.proofs.Common.{sym, refl}
+use Rattle.std.proofs.lemmas.Bool.{lt-ltb}
+use Rattle.sched.specs.House.{weight_of}
+use Rattle.sched.specs.Stores.{kind_of}
+use Rattle.sched.proofs.promise.Promise.is_fair.Goals as goal
 
-pub returns-in-Reserved : need.returns-in-Reserved
-unfolding kindOf weightOf
-returns-in-Reserved c = rw (c .in-Reserved .is) refl
+pub returns-in-Reserved : goal.returns-in-Reserved
+unfolding kind_of weight_of
+returns-in-Reserved c = rw c.in-Reserved.is refl
 
-pub returns-in-Fixed : need.returns-in-Fixed
-unfolding kindOf weightOf
-returns-in-Fixed c = rw (c .in-Fixed .is) refl
+pub returns-in-Fixed : goal.returns-in-Fixed
+unfolding kind_of weight_of
+returns-in-Fixed c = rw c.in-Fixed.is refl
 
-pub returns-in-Fair : need.returns-in-Fair
-unfolding kindOf weightOf
-returns-in-Fair c = rw (c .in-Fair .is) (sym (lt-ltb 0 (c .in-Fair .field-0 .value) (c .in-Fair .field-0 .positive)))
+pub returns-in-Fair : goal.returns-in-Fair
+unfolding kind_of weight_of
+returns-in-Fair c = rw c.in-Fair.is (sym (lt-ltb 0 c.in-Fair.field-0.value c.in-Fair.field-0.positive))

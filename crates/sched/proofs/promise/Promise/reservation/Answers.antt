@@ -1,16 +1,16 @@
-use mathlib.Core.Path.{refl}
-use Rattle·sched·specs.House.{isReserved}
-use Rattle·sched·specs.Stores.{kindOf}
-use Rattle·sched·proofs.promise.Promise.reservation.Needs as need
+use Rattle.std.proofs.Common.{refl}
+use Rattle.sched.specs.House.{is_reserved}
+use Rattle.sched.specs.Stores.{kind_of}
+use Rattle.sched.proofs.promise.Promise.reservation.Goals as goal
 
-pub returns-in-Reserved : need.returns-in-Reserved
-unfolding kindOf
-returns-in-Reserved c = rw (c .in-Reserved .is) refl
+pub returns-in-Reserved : goal.returns-in-Reserved
+unfolding kind_of
+returns-in-Reserved c = rw c.in-Reserved.is refl
 
-pub returns-in-Fixed : need.returns-in-Fixed
-unfolding kindOf isReserved
-returns-in-Fixed c = rw (c .in-Fixed .is) refl
+pub returns-in-Fixed : goal.returns-in-Fixed
+unfolding kind_of is_reserved
+returns-in-Fixed c = rw c.in-Fixed.is refl
 
-pub returns-in-Fair : need.returns-in-Fair
-unfolding kindOf isReserved
-returns-in-Fair c = rw (c .in-Fair .is) refl
+pub returns-in-Fair : goal.returns-in-Fair
+unfolding kind_of is_reserved
+returns-in-Fair c = rw c.in-Fair.is refl

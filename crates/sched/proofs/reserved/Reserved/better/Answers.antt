@@ -1,32 +1,29 @@
-use mathlib.Core.Path.{_≡_, sym, ap, subst, _∙_}
-use mathlib.Core.Bool.{true}
-use Prim.Native.Nat.{ℕ}
-use Rattle·std.specs.Options.{Cases as BySome}
-use Rattle·sched·specs.declared.tasks.Slot.the-variants as slot
-use Rattle·sched·specs.House.{due, isReserved}
-use Rattle·sched·specs.Stores.{placeOf}
-use Rattle·sched·specs.Midtick.{soonerThan}
-use Rattle·sched·proofs.Soonest.{past-due, best-skip, best-keep, best-take}
-use Rattle·sched·proofs.Upto.{reads-past}
-use Rattle·sched·proofs.reserved.Reserved.better.Needs as need
-use Rattle·sched·proofs.reserved.Reserved.better.Needs.{else-is-due·by·then-is-due·else-goes-before, else-is-due·by·else-is-due}
+use Rattle.std.proofs.Common.{◌≡◌, ℕ, true, sym, ap, ◌∙◌, subst, MatchOption}
+use Rattle.sched.specs.declared.tasks.Slot.TheVariants as slot
+use Rattle.sched.specs.House.{due, is_reserved}
+use Rattle.sched.specs.Stores.{place_of}
+use Rattle.sched.specs.Midtick.{sooner_than}
+use Rattle.sched.proofs.Soonest.{past-due, best-skip, best-keep, best-take}
+use Rattle.sched.proofs.Upto.{reads-past}
+use Rattle.sched.proofs.reserved.Reserved.better.Goals as goal
+use Rattle.sched.proofs.reserved.Reserved.better.Goals.{else-is_due-via-then-is_due+else-goes_before, else-is_due-via-else-is_due}
 
-pub returns-in-rest : need.returns-in-rest
-unfolding placeOf isReserved
-returns-in-rest c h slots asks windows b = best-skip h (c .args .k) (c .args .best) (past-due h (c .args .k) (ap isReserved (reads-past placeOf slot.Free slots (c .args .k) (c .in-rest .ensures tt)))) b
+pub returns-in_default : goal.returns-in_default
+unfolding place_of is_reserved
+returns-in_default c h slots asks windows b = best-skip h c.args.k c.args.best (past-due h c.args.k (ap is_reserved (reads-past place_of slot.Free slots c.args.k c.in_default.ensures))) b
 
-pub returns-then-goes-before : need.returns-then-goes-before
-returns-then-goes-before c h slots asks windows b =
-    let at = c .in-Some .ensures tt .0 in
-    best-take h (c .args .k) (c .args .best) (c .goes-before .result) (c .in-Some .i) at (ap (due h) (sym at) ∙ sym (c .is-due .ensures h slots asks windows) ∙ c .if-is-due .taken) (c .if-goes-before .taken)
-    (let P : ℕ → Type 0 = λ n. BySome (c .args .best) (c .goes-before .result ≡ true) (λ j. c .goes-before .result ≡ soonerThan (h .window n) (h .window (j .index))) in subst P at (c .goes-before .ensures (h .window) windows)) b
+pub returns-then-goes_before : goal.returns-then-goes_before
+returns-then-goes_before c h slots asks windows b =
+    let at = c.in-Some.ensures.0 in
+    best-take h c.args.k c.args.best c.goes_before.result c.in-Some.i at (ap (due h) (sym at) ∙ sym (c.is_due.ensures h slots asks windows) ∙ c.if-is_due.true) c.if-goes_before.true
+    (let P : ℕ → Type 0 = λ n. MatchOption c.args.best (c.goes_before.result ≡ true) (λ j. c.goes_before.result ≡ sooner_than (h.window n) (h.window j.index)) in subst P at (c.goes_before.ensures h.window windows)) b
 
-pub returns : need.returns
+pub returns : goal.returns
 returns c h slots asks windows b =
-    let at = c .in-Some .ensures tt .0 in
-    elim (c .else-is-due .came) [
-      | else-is-due·by·then-is-due·else-goes-before w ↦
-          best-keep h (c .args .k) (c .args .best) (w .goes-before .result) (w .if-goes-before .left)
-          (let P : ℕ → Type 0 = λ n. BySome (c .args .best) (w .goes-before .result ≡ true) (λ j. w .goes-before .result ≡ soonerThan (h .window n) (h .window (j .index))) in subst P at (w .goes-before .ensures (h .window) windows)) b
-      | else-is-due·by·else-is-due w ↦ best-skip h (c .args .k) (c .args .best) (ap (due h) (sym at) ∙ sym (c .is-due .ensures h slots asks windows) ∙ w .if-is-due .left) b
+    let at = c.in-Some.ensures.0 in
+    elim c.else-is_due.branch [
+      | else-is_due-via-then-is_due+else-goes_before w ↦
+          best-keep h c.args.k c.args.best w.goes_before.result w.if-goes_before.false
+          (let P : ℕ → Type 0 = λ n. MatchOption c.args.best (w.goes_before.result ≡ true) (λ j. w.goes_before.result ≡ sooner_than (h.window n) (h.window j.index)) in subst P at (w.goes_before.ensures h.window windows)) b
+      | else-is_due-via-else-is_due w ↦ best-skip h c.args.k c.args.best (ap (due h) (sym at) ∙ sym (c.is_due.ensures h slots asks windows) ∙ w.if-is_due.false) b
     ]

@@ -1,8 +1,8 @@
-use Rattle·windows.specs.declared.Window.the-variants as window-is
-use Rattle·sched·specs.Stores.{windowOf}
-use Rattle·sched·proofs.Arrays.{reads-replicate}
-use Rattle·sched·proofs.reserved.Reserved.new.Needs as need
+use Rattle.windows.specs.declared.Window.TheVariants as window-is
+use Rattle.sched.specs.Stores.{window_of}
+use Rattle.sched.proofs.Arrays.{reads-replicate}
+use Rattle.sched.proofs.reserved.Reserved.new.Goals as goal
 
-pub returns : need.returns
-unfolding windowOf
-returns c = reads-replicate windowOf window-is.Shut
+pub returns : goal.returns
+unfolding window_of
+returns c = reads-replicate window_of window-is.Shut

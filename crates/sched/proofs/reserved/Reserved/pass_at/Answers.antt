@@ -1,39 +1,37 @@
-use mathlib.Core.Path.{_≡_, sym, ap, subst, _∙_}
-use Prim.Native.Nat.{ℕ}
-use lib.ListN.{set}
-use Rattle·windows.specs.declared.Window.the-variants as window-is
-use Rattle·sched·specs.declared.tasks.Slot.the-variants as slot
-use Rattle·sched·specs.declared.tasks.Tasks.{Tasks}
-use Rattle·sched·specs.House.{Window, put, passed, freed}
-use Rattle·sched·specs.Stores.{Reads, placeOf, windowOf}
-use Rattle·sched·proofs.Arrays.{reads-written, reads-kept}
-use Rattle·sched·proofs.Lives.{pass-told, shut-told}
-use Rattle·sched·proofs.Passing.{open-keeps}
-use Rattle·sched·proofs.reserved.Reserved.pass_at.Needs as need
-use Rattle·sched·proofs.reserved.Reserved.pass_at.Needs.{then-not-is-open, else-not-is-open}
+use Rattle.std.proofs.Common.{◌≡◌, ℕ, set, sym, ap, ◌∙◌, subst}
+use Rattle.windows.specs.declared.Window.TheVariants as window-is
+use Rattle.sched.specs.declared.tasks.Slot.TheVariants as slot
+use Rattle.sched.specs.declared.tasks.Tasks.{Tasks}
+use Rattle.sched.specs.House.{Window, put, passed, freed}
+use Rattle.sched.specs.Stores.{Reads, place_of, window_of}
+use Rattle.sched.proofs.Arrays.{reads-written, reads_kept}
+use Rattle.sched.proofs.Lives.{pass-told, shut-told}
+use Rattle.sched.proofs.Passing.{open-keeps}
+use Rattle.sched.proofs.reserved.Reserved.pass_at.Goals as goal
+use Rattle.sched.proofs.reserved.Reserved.pass_at.Goals.{then-not-is_open, else-not-is_open}
 
-pub returns : need.returns
+pub returns : goal.returns
 returns c =
     record {
-      windows = λ w windows. reads-written windowOf window-is.Shut (c .args .i .index) (c .pass-window .result) (passed (c .args .mine) (w (c .args .i .index))) (c .args .i .within)
-          (ap (λ n. set (c .args .self .now .windows) n (c .pass-window .result)) (c .index .ensures .value)) (told w windows) windows;
+      windows = λ w windows. reads-written window_of window-is.Shut c.args.i.index c.pass-window.result (passed c.args.mine (w c.args.i.index)) c.args.i.within
+          (ap (λ n. set c.args.self.now.windows n c.pass-window.result) c.index.ensures.value) (told w windows) windows;
       places = λ w p windows slots.
-          let P : Tasks → Type 0 = λ t. Reads placeOf slot.Free (t .slots) (put (c .args .i .index) (freed (passed (c .args .mine) (w (c .args .i .index))) (p (c .args .i .index))) p) in
-          elim (c .if-not-is-open .came) [
-            | then-not-is-open v ↦ subst P (sym (v .tasks-is)) (subst (λ x. Reads placeOf slot.Free (v .release .last .self .slots) (put (c .args .i .index) (freed x (p (c .args .i .index))) p))
-                (sym (shut-told (c .pass-window .result) (sym (c .is-open .ensures) ∙ v .if-not-is-open .taken)) ∙ told w windows) (v .release .ensures .slots p slots))
-            | else-not-is-open v ↦ subst P (sym (v .tasks-is)) (reads-kept placeOf slot.Free (c .args .i .index) (freed (passed (c .args .mine) (w (c .args .i .index))) (p (c .args .i .index)))
-                (ap (λ x. freed x (p (c .args .i .index))) (sym (told w windows)) ∙ open-keeps (c .pass-window .result) (p (c .args .i .index)) (sym (c .is-open .ensures) ∙ v .if-not-is-open .left)) slots)
+          let P : Tasks → Type 0 = λ t. Reads place_of slot.Free t.slots (put c.args.i.index (freed (passed c.args.mine (w c.args.i.index)) (p c.args.i.index)) p) in
+          elim c.if-not-is_open.branch [
+            | then-not-is_open v ↦ subst P (sym v.tasks-is) (subst (λ x. Reads place_of slot.Free v.release.new.self.slots (put c.args.i.index (freed x (p c.args.i.index)) p))
+                (sym (shut-told c.pass-window.result (sym c.is_open.ensures ∙ v.if-not-is_open.true)) ∙ told w windows) (v.release.ensures.slots p slots))
+            | else-not-is_open v ↦ subst P (sym v.tasks-is) (reads_kept place_of slot.Free c.args.i.index (freed (passed c.args.mine (w c.args.i.index)) (p c.args.i.index))
+                (ap (λ x. freed x (p c.args.i.index)) (sym (told w windows)) ∙ open-keeps c.pass-window.result (p c.args.i.index) (sym c.is_open.ensures ∙ v.if-not-is_open.false)) slots)
           ];
-      awake = elim (c .if-not-is-open .came) [
-        | then-not-is-open v ↦ ap (λ (t : Tasks). t .awake) (v .tasks-is) ∙ v .release .ensures .awake
-        | else-not-is-open v ↦ ap (λ (t : Tasks). t .awake) (v .tasks-is)
+      awake = elim c.if-not-is_open.branch [
+        | then-not-is_open v ↦ ap (λ (t : Tasks). t.awake) v.tasks-is ∙ v.release.ensures.awake
+        | else-not-is_open v ↦ ap (λ (t : Tasks). t.awake) v.tasks-is
       ];
-      tops = elim (c .if-not-is-open .came) [
-        | then-not-is-open v ↦ ap (λ (t : Tasks). t .tops) (v .tasks-is) ∙ v .release .ensures .tops
-        | else-not-is-open v ↦ ap (λ (t : Tasks). t .tops) (v .tasks-is)
+      tops = elim c.if-not-is_open.branch [
+        | then-not-is_open v ↦ ap (λ (t : Tasks). t.tops) v.tasks-is ∙ v.release.ensures.tops
+        | else-not-is_open v ↦ ap (λ (t : Tasks). t.tops) v.tasks-is
       ];
     }
   where
-    told : (w : ℕ → Window) → Reads windowOf window-is.Shut (c .args .self .now .windows) w → windowOf (c .pass-window .result) ≡ passed (c .args .mine) (w (c .args .i .index))
-    told w windows = pass-told (c .window .result) (c .pass-window .result) (c .args .mine) (c .pass-window .ensures) ∙ ap (passed (c .args .mine)) (ap windowOf (c .window .ensures) ∙ windows .at (c .args .i .index))
+    told : (w : ℕ → Window) → Reads window_of window-is.Shut c.args.self.now.windows w → window_of c.pass-window.result ≡ passed c.args.mine (w c.args.i.index)
+    told w windows = pass-told c.window.result c.pass-window.result c.args.mine c.pass-window.ensures ∙ ap (passed c.args.mine) (ap window_of c.window.ensures ∙ windows.at c.args.i.index)

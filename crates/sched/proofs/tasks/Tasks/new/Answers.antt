@@ -1,9 +1,9 @@
-use mathlib.Core.Bool.{Bool, false}
-use Rattle·sched·specs.declared.tasks.Slot.the-variants as slot
-use Rattle·sched·specs.Stores.{placeOf}
-use Rattle·sched·proofs.Arrays.{reads-replicate}
-use Rattle·sched·proofs.tasks.Tasks.new.Needs as need
+use Rattle.std.proofs.Common.{Bool, false}
+use Rattle.sched.specs.declared.tasks.Slot.TheVariants as slot
+use Rattle.sched.specs.Stores.{place_of}
+use Rattle.sched.proofs.Arrays.{reads-replicate}
+use Rattle.sched.proofs.tasks.Tasks.new.Goals as goal
 
-pub returns : need.returns
-unfolding placeOf
-returns c = record { slots = reads-replicate placeOf slot.Free; awake = reads-replicate (λ (b : Bool). b) false; tops = c .new .ensures }
+pub returns : goal.returns
+unfolding place_of
+returns c = record { slots = reads-replicate place_of slot.Free; awake = reads-replicate (λ (b : Bool). b) false; tops = c.new.ensures }

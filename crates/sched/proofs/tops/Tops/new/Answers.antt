@@ -1,11 +1,10 @@
-use mathlib.Core.Path.{refl}
-use native.Mathlib.Omega.{arith}
-use Rattle·sched·specs.House.{weightOf, isFixed}
-use Rattle·sched·specs.Stores.{hasWindow}
-use Rattle·sched·proofs.tops.Tops.new.Needs as need
+use Rattle.std.proofs.Common.{refl, arith}
+use Rattle.sched.specs.House.{weight_of, is_fixed}
+use Rattle.sched.specs.Stores.{has_window}
+use Rattle.sched.proofs.tops.Tops.new.Goals as goal
 
-pub returns : need.returns
-unfolding hasWindow weightOf isFixed
+pub returns : goal.returns
+unfolding has_window weight_of is_fixed
 returns c = record {
   tasks = record { within = omega arith; nobody = λ i l. refl };
   reserved = record { within = omega arith; none = λ i l. refl; shut = λ i l. refl };

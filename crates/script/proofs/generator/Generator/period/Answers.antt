@@ -1,6 +1,6 @@
 -- The table is the one of the definition.
-use Rattle·script·proofs.Drawing.{period-is}
-use Rattle·script·proofs.generator.Generator.period.Needs as need
+use Rattle.script.proofs.Drawing.{period-is}
+use Rattle.script.proofs.generator.Generator.period.Goals as goal
 
-pub returns : need.returns
-returns c = period-is (c .args .self .now .state) (c .below .result) (c .below .last .self .state) (c .below .ensures .value)
+pub returns : goal.returns
+returns c = period-is c.args.self.now.state c.below.result c.below.new.self.state c.below.ensures.value

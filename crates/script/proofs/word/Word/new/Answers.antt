@@ -1,8 +1,8 @@
 -- Nothing has been taken in.
-use mathlib.Core.Path.{refl}
-use Rattle·script·specs.Grammar.{valueOf, valueAfter, allDigits}
-use Rattle·script·proofs.word.Word.new.Needs as need
+use Rattle.std.proofs.Common.{refl}
+use Rattle.script.specs.Grammar.{value_of, value_after, all_digits}
+use Rattle.script.proofs.word.Word.new.Goals as goal
 
-pub returns : need.returns
-unfolding valueOf valueAfter allDigits
+pub returns : goal.returns
+unfolding value_of value_after all_digits
 returns c = record { room = refl; count = refl; front = refl; number = refl }

@@ -1,7 +1,7 @@
 -- What the code computes is the formula, at most a whole of the other weight.
-use borrow.Author.Needs.{needs}
-use Rattle·virtual_time·proofs.Rounding.{upRest-most}
-use Rattle·virtual_time·proofs.position.Position.parts_up.Needs as need
+use Rattle.std.proofs.Common.{rules}
+use Rattle.virtual_time.proofs.Rounding.{up_rest-most}
+use Rattle.virtual_time.proofs.position.Position.parts_up.Goals as goal
 
-pub returns : need.returns
-returns c = record { value = search needs; bound = search (needs, upRest-most) }
+pub returns : goal.returns
+returns c = record { value = search rules; bound = search (rules, up_rest-most) }

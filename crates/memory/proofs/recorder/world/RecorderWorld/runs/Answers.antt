@@ -1,19 +1,18 @@
 -- Recorded is a tick that may be, and the log comes to the house after it.
-use mathlib.Core.Path.{ap, _∙_}
-use native.Mathlib.Omega.{arith}
-use Rattle·sched.specs.House.{empty}
-use Rattle·memory·specs.declared.entry.Entry.the-variants.{Ran}
-use Rattle·memory·specs.Run.{outcome}
-use Rattle·memory·specs.Recorded.{entriesOf}
-use Rattle·memory·proofs.Runs.{ran-allowed, ran-entered, outcome-push}
-use Rattle·memory·proofs.recorder.world.RecorderWorld.runs.Needs as need
+use Rattle.std.proofs.Common.{ap, ◌∙◌, arith}
+use Rattle.sched.specs.House.{empty}
+use Rattle.memory.specs.declared.entry.Entry.TheVariants.{Ran}
+use Rattle.memory.specs.Run.{outcome}
+use Rattle.memory.specs.Recorded.{entries_of}
+use Rattle.memory.proofs.Runs.{ran-allowed, ran-entered, outcome-push}
+use Rattle.memory.proofs.recorder.world.RecorderWorld.runs.Goals as goal
 
-pub record-requires : need.record-requires
-record-requires c κs = (omega arith, ran-allowed (outcome empty (entriesOf (c .args .self .now))) (c .args .whose) (c .args .runs) (c .pre .1))
+pub record-requires : goal.record-requires
+record-requires c = (omega arith, ran-allowed (outcome empty (entries_of c.args.self.now)) c.args.whose c.args.runs c.requires.1)
 
-pub returns : need.returns
+pub returns : goal.returns
 returns c = (
-  ap (outcome empty) (c .record .ensures .after) ∙ outcome-push empty (entriesOf (c .args .self .now)) (Ran (c .args .whose) (c .args .runs))
-      ∙ ran-entered (outcome empty (entriesOf (c .args .self .now))) (c .args .whose) (c .args .runs),
+  ap (outcome empty) c.record.ensures.after ∙ outcome-push empty (entries_of c.args.self.now) (Ran c.args.whose c.args.runs)
+      ∙ ran-entered (outcome empty (entries_of c.args.self.now)) c.args.whose c.args.runs,
   omega arith,
 )

@@ -1,19 +1,18 @@
 -- Recorded is the answer that the rules give, and the log comes to the house after it.
-use mathlib.Core.Path.{ap, _∙_}
-use native.Mathlib.Omega.{arith}
-use Rattle·sched.specs.House.{empty}
-use Rattle·memory·specs.declared.entry.Entry.the-variants.{Called}
-use Rattle·memory·specs.Run.{outcome}
-use Rattle·memory·specs.Recorded.{entriesOf}
-use Rattle·memory·proofs.Runs.{told-allowed, told-entered, outcome-push}
-use Rattle·memory·proofs.recorder.world.RecorderWorld.told.Needs as need
+use Rattle.std.proofs.Common.{ap, ◌∙◌, arith}
+use Rattle.sched.specs.House.{empty}
+use Rattle.memory.specs.declared.entry.Entry.TheVariants.{Called}
+use Rattle.memory.specs.Run.{outcome}
+use Rattle.memory.specs.Recorded.{entries_of}
+use Rattle.memory.proofs.Runs.{told-allowed, told-entered, outcome-push}
+use Rattle.memory.proofs.recorder.world.RecorderWorld.told.Goals as goal
 
-pub record-requires : need.record-requires
-record-requires c κs = (omega arith, told-allowed (outcome empty (entriesOf (c .args .self .now))) (c .args .c) (c .args .a) (c .pre .1))
+pub record-requires : goal.record-requires
+record-requires c = (omega arith, told-allowed (outcome empty (entries_of c.args.self.now)) c.args.c c.args.a c.requires.1)
 
-pub returns : need.returns
+pub returns : goal.returns
 returns c = (
-  ap (outcome empty) (c .record .ensures .after) ∙ outcome-push empty (entriesOf (c .args .self .now)) (Called (c .args .c) (c .args .a))
-      ∙ told-entered (outcome empty (entriesOf (c .args .self .now))) (c .args .c) (c .args .a),
+  ap (outcome empty) c.record.ensures.after ∙ outcome-push empty (entries_of c.args.self.now) (Called c.args.c c.args.a)
+      ∙ told-entered (outcome empty (entries_of c.args.self.now)) c.args.c c.args.a,
   omega arith,
 )

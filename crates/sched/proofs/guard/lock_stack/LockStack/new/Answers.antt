@@ -1,5 +1,5 @@
-use Rattle·sched·proofs.Stacks.{none-left}
-use Rattle·sched·proofs.guard.lock_stack.LockStack.new.Needs as need
+use Rattle.sched.proofs.Stacks.{none_left}
+use Rattle.sched.proofs.guard.lock_stack.LockStack.new.Goals as goal
 
-pub returns : need.returns
-returns c = none-left _
+pub returns : goal.returns
+returns c = none_left _

@@ -1,15 +1,11 @@
-use mathlib.Core.Path.{ap, _∙_}
-use mathlib.Core.List.{_∷_}
-use Prim.Native.Nat.{_<_}
-use lib.ListN.{length}
-use borrow.Author.Needs.{needs}
-use Rattle·sched·specs.Stacks.{lastFirst}
-use Rattle·sched·proofs.Stacks.{put-on}
-use Rattle·sched·proofs.guard.lock_stack.LockStack.push.Needs as need
+use Rattle.std.proofs.Common.{◌<◌, ◌∷◌, length, ap, ◌∙◌, rules}
+use Rattle.sched.specs.Stacks.{last_first}
+use Rattle.sched.proofs.Stacks.{put_on}
+use Rattle.sched.proofs.guard.lock_stack.LockStack.push.Goals as goal
 
-pub returns : need.returns
+pub returns : goal.returns
 returns c =
-    let d = c .args .self .now .depth in
-    let xs = c .args .self .now .locks in
-    let room : d < length xs = search needs in
-    put-on xs d (c .index .result) room ∙ ap (λ n. n ∷ lastFirst xs d) (c .index .ensures .value)
+    let d = c.args.self.now.depth in
+    let xs = c.args.self.now.locks in
+    let room : d < length xs = search rules in
+    put_on xs d c.index.result room ∙ ap (λ n. n ∷ last_first xs d) c.index.ensures.value

@@ -1,0 +1,10 @@
+-- Nobody wants of the ranks passed.
+use Rattle.std.proofs.Common.{◌≡◌, ℕ, ◌<◌}
+use Rattle.sched.specs.House.{House, in_turn, rank_wants}
+use Rattle.sched.specs.Stores.{TurnOf}
+use Rattle.sched.specs.Midtick.{WantsOf}
+use Rattle.sched.proofs.fixed.FixedClass.candidate.Given as goal
+
+abbrev pub invariant-loop-k : goal.invariant-loop-k
+invariant-loop-k l =
+    (h : House) → WantsOf l.wants h → TurnOf l.self h.place h.turn → (r : ℕ) → r < l.k → in_turn (rank_wants h r) h.turn ≡ 0

@@ -1,0 +1,7 @@
+-- The best of the places passed.
+use Rattle.sched.specs.House.{House}
+use Rattle.sched.specs.Midtick.{SlotsOf, WantsOf, WindowsOf, BestBelow}
+use Rattle.sched.proofs.reserved.ReservedClass.candidate.Given as goal
+
+abbrev pub invariant-loop-k : goal.invariant-loop-k
+invariant-loop-k l = (h : House) → SlotsOf l.tasks h → WantsOf l.wants h → WindowsOf l.self h → BestBelow l.k h l.best

@@ -1,0 +1,8 @@
+-- The sum so far, to which each place adds 10,080 at most.
+use Rattle.std.proofs.Common.{◌≡◌, ◌*◌, ◌≤◌}
+use Rattle.sched.specs.House.{sum, share_of}
+use Rattle.sched.specs.Stores.{place_at}
+use Rattle.sched.proofs.tasks.Tasks.shares.Given as goal
+
+abbrev pub invariant-loop-i : goal.invariant-loop-i
+invariant-loop-i l = (l.sum ≡ sum l.i (λ k. share_of (place_at l.self.slots k))) × (l.sum ≤ 10080 * l.i)

@@ -1,7 +1,0 @@
--- The buffer keeps its length.
-use mathlib.Core.Path.{_≡_}
-use lib.ListN.{length}
-use Rattle·stage·proofs.play.Given as given
-
-abbrev pub Inv-loop-k : given.InvT-loop-k
-Inv-loop-k l = length (l .buffer) ≡ 65536
