@@ -1,4 +1,4 @@
--- A transcript on its way: nothing is written yet, some lines more, and what stands in the room when the script is over.
+-- An account on its way: nothing is written yet, some lines more, and what stands in the room when the script is over.
 use Rattle.std.proofs.Common.{◌≡◌, ℕ, ◌≤◌, List, ◌++◌, length, take, drop, sym, refl, ap, ◌∙◌, subst, append_assoc, append-nil, arith, take_at, drop_at}
 use Rattle.std.proofs.lemmas.List.{drop-drop}
 use Rattle.player.specs.Evening.{Allowed}

@@ -1,4 +1,4 @@
-// The functions that are exported.
+// The functions that `export_c` exports.
 ghost use Rattle.std.specs.Prelude.{◌≡◌, min, T, ◌⊎◌};
 ghost use Rattle.sched.specs.House.{House};
 ghost use Rattle.sched.specs.Stores.{Holds};

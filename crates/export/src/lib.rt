@@ -1,4 +1,4 @@
-// What Rust and C may call: a script to its transcript, and steps to a log. Nothing is asked of the caller, nothing is allocated.
+// What `export_c` gives to Rust and C: a script to its transcript, and steps to a log. Nothing is asked of the caller, nothing is allocated.
 #![tactic(auto)]
 
 pub mod accounted;

@@ -49,7 +49,8 @@ pub fn hands_on(scheduler: &mut Scheduler, i: TaskId, j: TaskId) -> bool
 }
 
 fn is_done(a: Answer) -> bool
-    ensures { result ≡ true → a ≡ Answer.Done }
+    ensures done { result ≡ true → a ≡ Answer.Done }
+    ensures all { a ≡ Answer.Done → result ≡ true }
 {
     match a {
         Answer::Done => true,

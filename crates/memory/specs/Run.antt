@@ -40,7 +40,7 @@ unfoldable pub outcome : House → List Entry → House
 outcome h [] = h
 outcome h (e ∷ es) = outcome (entered h e) es
 
--- The same as a test, which a type can carry: there is one proof of it at most.
+-- two answers are the same, as a test
 unfoldable pub same_answer : Answer → Answer → Bool
 same_answer Done Done = true
 same_answer Done (Id n) = false
@@ -52,6 +52,7 @@ same_answer (No m) Done = false
 same_answer (No m) (Id n) = false
 same_answer (No m) (No n) = m == n
 
+-- Whether entries are a legal run, as a test, which a type can carry: there is one proof of it at most.
 unfoldable pub allowed : House → Entry → Bool
 allowed h (Ran t j) = may_run h t j
 allowed h (Called c a) = same_answer a (calls c h).answer

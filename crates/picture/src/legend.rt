@@ -1,4 +1,4 @@
-// What the signs mean: three columns of four.
+// What the signs mean: three columns, of five, four and four.
 use crate::pen::Pen;
 use crate::shapes;
 use crate::shapes::{Area, Bracket};

@@ -1,4 +1,4 @@
--- A quarter is left to fair tasks, as long as no fixed one wants anything.
+-- A quarter is left to fair tasks, as long as some fair one wants each tick and no fixed one does.
 -- Assumes nothing.
 use Rattle.std.specs.Prelude.{ℕ, ◌+◌, ◌-◌, ◌*◌, ◌≤◌, Bool, cond, not, ◌&&◌, T, Option, nat_lt}
 use Rattle.sched.specs.declared.Call.{Call}

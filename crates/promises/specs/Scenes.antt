@@ -39,7 +39,7 @@ bad_kinds =
 abbrev pub full_house : Scene
 full_house = (Make (Reserved 3 4), Id 0) ∷ (Make (Reserved 1 10080), No 3) ∷ []
 
--- who has a lock isn't given it again, and who waits calls for nothing
+-- who has a lock isn't given it again, and who waits can't lock
 abbrev pub lock_twice : Scene
 lock_twice =
     (Make (Fair 1), Id 0) ∷ (Make (Fair 1), Id 1) ∷ (Wake 0, Done) ∷ (Wake 1, Done) ∷ (Lock 0 5, Done) ∷ (Lock 1 5, Done) ∷ (Lock 0 5, No 5) ∷ (Lock 1 5, No 9) ∷ []

@@ -1,4 +1,4 @@
-// Theorems on the rules in the subject's own words, each a contract.
+// Theorems on the rules: reservations, turns, fairness, lending, admission. Each is a contract.
 #![tactic(auto)]
 
 ghost use Rattle.promises.specs.Admission.{Admits};
@@ -18,7 +18,7 @@ pub fn lends() -> u8
     0
 }
 
-// A tick is nobody's only if whoever wants it has had its quota.
+// A tick is nobody's only if whoever wants it is a reserved task that has had its quota.
 pub fn idle_only_if_unwanted() -> u8
     ensures { IdleOnlyIfUnwanted }
 {
@@ -46,7 +46,7 @@ pub fn reserved_has() -> u8
     0
 }
 
-// A quarter is left to fair tasks, less a constant, as long as no fixed one wants anything.
+// A quarter is left to fair tasks, less a constant, as long as some fair one wants each tick and no fixed one does.
 pub fn quarter_left() -> u8
     ensures { QuarterLeft }
 {

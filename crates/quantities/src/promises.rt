@@ -1,5 +1,5 @@
 // What a task is promised: a quota of each period, a rank, or a weight.
-ghost use Rattle.std.specs.Prelude.{◌≡◌, ◌+◌, ◌*◌, ◌/◌, ◌%◌, ◌<◌, ◌≤◌, true, false, MatchOption};
+ghost use Rattle.std.specs.Prelude.{◌≡◌, ◌*◌, ◌/◌, ◌<◌, ◌≤◌, MatchOption};
 ghost use Rattle.quantities.specs.Range.{GoodReservation};
 
 // A place in the order of fixed tasks: 0 to 15, of which 0 goes first.

@@ -1,4 +1,4 @@
--- What the calls come to, for the queues that a state stands for.
+-- What the operations come to, for the queues that a state stands for.
 -- Assumes nothing.
 use Rattle.std.specs.Prelude.{◌≡◌, ℕ, Bool, true, false, List, [], ◌∷◌, ◌++◌, Option, MatchOption}
 use Rattle.quantities.specs.declared.ids.TaskId.{TaskId}

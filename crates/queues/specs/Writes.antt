@@ -1,4 +1,4 @@
--- What the calls write: the state after each, as a function of the state before it.
+-- What the operations write: the state after each, as a function of the state before it.
 -- Assumes nothing.
 use Rattle.std.specs.Prelude.{ℕ, cond, nat_lt, slice_set}
 use Rattle.queues.specs.declared.fifo.Link.{Link}

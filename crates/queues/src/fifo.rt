@@ -1,6 +1,6 @@
 // The queues as links between neighbours, in one array of members and one of ends.
 // A queue is a ring through 64, which stands for nobody: it comes after the last member and before the first.
-ghost use Rattle.std.specs.Prelude.{◌≡◌, ℕ, true, false, List, [], ◌∷◌, ◌++◌, is_some};
+ghost use Rattle.std.specs.Prelude.{◌≡◌, ℕ, false, List, [], ◌∷◌, ◌++◌, is_some};
 ghost use Rattle.queues.specs.Members.{Free, rest, put};
 ghost use Rattle.queues.specs.Rings.{Holds};
 ghost use Rattle.queues.specs.Writes.{set_after, set_before, joined, appended, unlinked};

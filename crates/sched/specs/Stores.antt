@@ -105,7 +105,7 @@ pub record AllStand (base : ℕ) (positions : List Position) (place : ℕ → Pl
   pub len : length positions ≡ 64
   pub each : (i : ℕ) (d : Position) → i < 64 → 0 < weight_of (place i) → Stands base (weight_of (place i)) (far i) (rest i) (slice_index_or positions i d)
 
--- How far fair tasks are, and the mark. The mark is low, so that nothing ever comes round.
+-- How far fair tasks are, and the mark. The mark is low, so that no position comes to the cap.
 pub record Fairly (f : code-fair.Fair) (place : ℕ → Place) (far rest : ℕ → ℕ) (mark_far mark_rest mark_over : ℕ) (wanted : ℕ → Bool) : Type 0 where
   pub base : ℕ
   pub all : AllStand base f.positions place far rest

@@ -98,7 +98,7 @@ impl Class for Fixed {
 
     ghost owed = { FirstInTurn };
 
-    // The first rank of which one wants the tick, and of these the one longest without.
+    // The first rank of which one wants the tick, and of these the one whose last tick, or making, is the longest ago.
     fn candidate(&self, _tasks: &Tasks, wants: &Wants) -> Option<TaskId> {
         for k in 0..16u32 {
             let first = self.first_of(k, wants);

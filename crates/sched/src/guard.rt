@@ -1,6 +1,6 @@
 // A lock that is held, as a value: it is given back when the value is dropped, by the same function as the call.
-ghost use Rattle.std.specs.Prelude.{◌≡◌, true, MatchOption};
-ghost use Rattle.sched.specs.Held.{Ready, Took, Gave, Let};
+ghost use Rattle.std.specs.Prelude.{◌≡◌, true, not, is_some, MatchOption};
+ghost use Rattle.sched.specs.Held.{concerns, Ready, Took, Gave, Let};
 
 use crate::{Answer, Call, Scheduler};
 use quantities::ids::{LockId, TaskId};
@@ -40,6 +40,7 @@ impl<'a> Guard<'a> {
     pub fn call(&mut self, c: Call) -> Option<Answer>
         ensures lent { self.new.scheduler.ghost_name ≡ self.old.scheduler.ghost_name }
         ensures ids { (self.new.task ≡ self.old.task) × (self.new.lock ≡ self.old.lock) }
+        ensures lets { is_some result ≡ not (concerns self.old.task.index c) }
         ensures answered { MatchOption result (self.new.scheduler.now ≡ self.old.scheduler.now) (λ a. Let self.old.scheduler.now self.new.scheduler.now self.old.task.index c a) }
     {
         if c.concerns(self.task) {

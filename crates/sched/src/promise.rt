@@ -1,5 +1,5 @@
 // What a task was promised, with its numbers known to be good.
-ghost use Rattle.std.specs.Prelude.{◌≡◌, ◌<◌, ◌≤◌, true, false, MatchOption, nat_lt};
+ghost use Rattle.std.specs.Prelude.{◌≡◌, ◌≤◌, true, false, MatchOption, nat_lt};
 ghost use Rattle.sched.specs.House.{good, share_of_kind, is_reserved, weight_of};
 ghost use Rattle.sched.specs.Stores.{kind_of, task_place, reserved_place};
 

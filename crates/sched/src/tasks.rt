@@ -58,7 +58,7 @@ impl Slot {
         }
     }
 
-    // The part of the processor that is spoken for by whoever is, or was, here.
+    // The share that counts in admission: that of the task here, or the one kept.
     pub fn share(self) -> u32
         ensures value { result ≡ share_of (place_of self) }
         ensures bound { result ≤ 10080 }

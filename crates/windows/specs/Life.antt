@@ -4,7 +4,7 @@ use Rattle.std.specs.Prelude.{ℕ, zero, suc, ◌+◌, Bool, true, false, cond, 
 use Rattle.windows.specs.declared.Window.{Window}
 use Rattle.windows.specs.declared.Window.TheVariants as code
 
--- A window, by its numbers: so many ticks to go, this one among them, so many had, and its task has wanted every one.
+-- A window, by its numbers: so many ticks to go, this one among them, so many had, and whether its task has wanted every one.
 pub data Life : Type 0 where
   Shut : Life
   Open : (ends got : ℕ) → (whole : Bool) → Life

@@ -1,7 +1,7 @@
 // The life of a reservation's window: it opens, may stop being whole, counts the ticks that were had of it, and is over.
 #![tactic(auto)]
 
-ghost use Rattle.std.specs.Prelude.{◌≡◌, true, false};
+ghost use Rattle.std.specs.Prelude.{◌≡◌};
 ghost use Rattle.windows.specs.Life.{life, open_with, open_kept, passed, got_of, is_open, goes_before};
 
 pub mod laws;

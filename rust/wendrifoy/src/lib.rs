@@ -4,8 +4,8 @@
 //! program `stage` prints for it. [`hours`] and [`record`] take [`Step`]s and
 //! give a log of [`Entry`]s: an entry for each step, in order.
 //!
-//! All of it runs in the static library of the crate `export`, which is proved
-//! and allocates nothing. Every call begins with an empty scheduler.
+//! All of it runs in the static library of the crate `export_c`, which is
+//! proved and allocates nothing. Every call begins with an empty scheduler.
 
 mod raw;
 mod steps;

@@ -27,5 +27,5 @@ returns-in-Some-call c done =
     subst (λ (x : Scheduler). (h : House) → Holds s h → HandedOn h i.index j.index x) (search rules) (goes_to s guard.scheduler.now asked.scheduler.now t i.index j.index a
     (subst (Took s guard.scheduler.now i.index) five c.take-guard.ensures.taken)
     (at_both (λ x y. Let guard.scheduler.now asked.scheduler.now x (Lock y 5) a) (index task₁) c.number.ensures.value c.in-Some-call.ensures.answered)
-    (c.is_done.ensures done)
+    (c.is_done.ensures.done done)
     (at_both (Gave asked.scheduler.now t) (index task₂) lock₂ c.drop-guard.ensures.given))

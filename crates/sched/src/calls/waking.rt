@@ -19,7 +19,7 @@ impl Scheduler {
         Answer::Done
     }
 
-    // One that waits lends what is its own, so it can't be put to sleep.
+    // A task that waits can't be put to sleep: whether it wants a tick is up to its runner.
     pub(crate) fn sleep(&mut self, number: u32) -> Answer
         ensures answered { (h : House) → Holds self.old h → (result ≡ (calls (Call.Sleep number) h).answer) × Holds self.new (calls (Call.Sleep number) h).house }
         ensures refused { is_no result ≡ true → self.new ≡ self.old }

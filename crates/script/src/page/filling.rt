@@ -1,6 +1,6 @@
 // How a page is filled.
 ghost use Rattle.std.specs.Prelude.{◌≡◌, ◌+◌, ◌<◌, ◌≤◌, [], ◌∷◌, length, decimal};
-ghost use Rattle.script.specs.Printed.{pending, Wrote};
+ghost use Rattle.script.specs.Printed.{Wrote};
 
 use super::{Page, SIZE};
 use crate::digits::spell;

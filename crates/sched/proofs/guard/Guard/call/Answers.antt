@@ -1,4 +1,4 @@
-use Rattle.std.proofs.Common.{sym, refl, ◌∙◌}
+use Rattle.std.proofs.Common.{not, sym, refl, ap, ◌∙◌}
 use Rattle.sched.proofs.Guarded.{let_through}
 use Rattle.sched.proofs.guard.Guard.call.Goals as goal
 
@@ -7,5 +7,6 @@ returns c =
     record {
       lent = refl;
       ids = (refl, refl);
+      lets = sym (ap not (sym c.concerns.ensures ∙ c.if-concerns.false));
       answered = let_through c.args.self.now.scheduler.now c.call.new.self c.args.self.now.task.index c.args.c c.call.result (sym c.concerns.ensures ∙ c.if-concerns.false) c.call.ensures.answered;
     }
