@@ -1,10 +1,10 @@
 // Lines written into a lent slice, after what was written there before.
 ghost use Rattle.std.specs.Prelude.{◌≡◌, ◌+◌, ◌≤◌, ◌++◌, length, take, drop, MatchOption};
-ghost use Rattle.export.specs.Room.{Grew};
+ghost use Rattle.export.specs.Room.{Grew, Full};
 
 // Where the lines end that are written from there on; `None`, and nothing written, if there is no room for all of them.
 pub(crate) fn write_after(room: &mut [u8], at: usize, lines: &[u8]) -> Option<usize>
-    ensures { MatchOption result (room.new ≡ room.old) (λ end. Grew room.old room.new at lines.now end) }
+    ensures { MatchOption result (Full room.old room.new at lines.now) (λ end. Grew room.old room.new at lines.now end) }
 {
     let many = lines.len();
     if at > room.len() || many > room.len() - at {
