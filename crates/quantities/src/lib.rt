@@ -3,3 +3,4 @@
 
 pub mod ids;
 pub mod promises;
+pub mod range;
