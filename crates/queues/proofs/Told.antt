@@ -1,8 +1,8 @@
 -- What the calls answer, read off the links.
 use Rattle.std.proofs.Common.{◌≡◌, ℕ, ◌<◌, ◌≤◌, List, [], ◌∷◌, ◌++◌, replicate, Some, None, Option, sym, refl, ap, ◌∙◌, subst, inl, inr, arith, MatchOption}
 use Rattle.std.proofs.lemmas.List.{get_or-replicate}
-use Rattle.quantities.specs.declared.ids.TaskId.{TaskId}
-use Rattle.queues.specs.declared.queue_id.QueueId.{QueueId}
+use Rattle.quantities.specs.Ids.{TaskId}
+use Rattle.quantities.specs.Ids.{QueueId}
 use Rattle.queues.specs.declared.fifo.Link.{Link}
 use Rattle.queues.specs.declared.fifo.Ends.{Ends}
 use Rattle.queues.specs.declared.fifo.Queues.{Queues}

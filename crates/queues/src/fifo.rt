@@ -6,8 +6,7 @@ ghost use Rattle.queues.specs.Rings.{Holds};
 ghost use Rattle.queues.specs.Writes.{set_after, set_before, joined, appended, unlinked};
 ghost use Rattle.queues.specs.Outcomes.{First, StandsIn, Pushed, Removed, Moved};
 
-use crate::queue_id::QueueId;
-use quantities::ids::TaskId;
+use quantities::ids::{QueueId, TaskId};
 
 // Nobody, and no queue.
 const NONE: u8 = 64;
@@ -55,7 +54,7 @@ impl Queues {
     pub fn front(&self, q: QueueId) -> Option<TaskId>
         ensures { (f : ℕ → List ℕ) → Holds self.now f → First (f q.index) result }
     {
-        TaskId::new(self.ends[q.index()].head as u32)
+        TaskId::try_from(u32::from(self.ends[q.index()].head)).ok()
     }
 
     // Who stands right behind i.
@@ -67,14 +66,14 @@ impl Queues {
         if link.at >= NONE {
             return None;
         }
-        TaskId::new(link.next as u32)
+        TaskId::try_from(u32::from(link.next)).ok()
     }
 
     // The queue in which i stands.
     pub fn queue_of(&self, i: TaskId) -> Option<QueueId>
         ensures { (f : ℕ → List ℕ) → Holds self.now f → StandsIn f i.index result }
     {
-        QueueId::new(self.links[i.index()].at as u32)
+        QueueId::try_from(u32::from(self.links[i.index()].at)).ok()
     }
 
     // Puts i last, unless it stands in a queue already.

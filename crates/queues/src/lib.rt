@@ -3,7 +3,5 @@
 #![tactic(auto)]
 
 pub mod fifo;
-pub mod queue_id;
 
 pub use fifo::Queues;
-pub use queue_id::QueueId;

@@ -1,7 +1,7 @@
 -- What is stored after each change that a call makes.
 use Rattle.std.proofs.Common.{◌≡◌, ℕ, suc, ◌<◌, Bool, false, cond, List, [], ◌∷◌, ◌++◌, get_or, set, Some, None, sym, refl, ap, ◌∙◌, subst, arith}
 use Rattle.std.proofs.lemmas.Bool.{cond_both}
-use Rattle.quantities.specs.declared.ids.TaskId.{TaskId}
+use Rattle.quantities.specs.Ids.{TaskId}
 use Rattle.queues.specs.Members.{Free}
 use Rattle.queues.specs.Rings as queue
 use Rattle.windows.specs.declared.Window.TheVariants as window

@@ -1,7 +1,7 @@
 -- Whose the tick is: from the candidates of the kinds, in their order, to what the rules allow, and on to the house after the tick.
 use Rattle.std.proofs.Common.{◌≡◌, ℕ, suc, ◌-◌, ◌<◌, ◌≤◌, Bool, true, false, cond, not, ◌&&◌, T, eqb, ltb, List, Some, None, Option, sym, refl, ◌∙◌, subst, ⊎_elim, arith, MatchOption}
 use Rattle.std.proofs.lemmas.Bool.{cases_eq, and_from, and_left, and_right, and_cases, not_from_false, both_ways, eq-eqb, ne_eqb, lt-ltb, cond-true, cond-false}
-use Rattle.quantities.specs.declared.ids.TaskId.{TaskId}
+use Rattle.quantities.specs.Ids.{TaskId}
 use Rattle.queues.specs.Rings as queue
 use Rattle.queues.specs.declared.fifo.Queues.{Queues}
 use Rattle.queues.proofs.Standing.{holds_same}

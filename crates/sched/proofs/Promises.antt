@@ -3,7 +3,7 @@ use Rattle.std.proofs.Common.{◌≡◌, ℕ, ◌%◌, ◌<◌, ◌≤◌, true,
 use Rattle.std.proofs.lemmas.Bool.{cases_Bool, and_from, and_parts, leb-true, le-leb, eqb-true, eq-eqb, lt-ltb, le-ltb}
 use Rattle.quantities.specs.Range.{GoodReservation}
 use Rattle.quantities.specs.declared.promises.Reservation.{Reservation}
-use Rattle.quantities.specs.declared.promises.Rank.{Rank}
+use Rattle.quantities.specs.Ids.{Rank}
 use Rattle.quantities.specs.declared.promises.Weight.{Weight}
 use Rattle.sched.specs.declared.Kind.TheVariants.{Reserved, Fixed, Fair}
 use Rattle.sched.specs.declared.promise.Promise.TheVariants as promised

@@ -2,7 +2,7 @@
 use Rattle.std.proofs.Common.{◌≡◌, ℕ, ◌+◌, ◌<◌, ◌≤◌, Bool, true, false, ◌&&◌, ltb, Some, None, Option, sym, refl, ◌∙◌, ⊎_elim, true≢false, arith, below_more, MatchOption}
 use mathlib.Core.Bool.{false≢true}
 use Rattle.std.proofs.lemmas.Bool.{cases_Bool, lt-ltb, le-ltb, ltb-true, ltb-false, both_ways}
-use Rattle.quantities.specs.declared.ids.TaskId.{TaskId}
+use Rattle.quantities.specs.Ids.{TaskId}
 use Rattle.windows.specs.Life as life
 use Rattle.windows.specs.declared.Window as code-window
 use Rattle.sched.specs.House.{House, Place, Window, Shut, Open, Nobody, is_reserved, quota_of, got_of, some', due}

@@ -7,7 +7,7 @@ use Rattle.queues.specs.Outcomes.{Pushed, Moved}
 use Rattle.queues.specs.declared.fifo.Queues.{Queues}
 use Rattle.queues.proofs.Standing.{holds_same}
 use Rattle.queues.proofs.Lists.{without-none}
-use Rattle.quantities.specs.declared.promises.Rank.{Rank}
+use Rattle.quantities.specs.Ids.{Rank}
 use Rattle.sched.specs.declared.promise.Promise.{Promise}
 use Rattle.sched.specs.declared.promise.Promise.TheVariants as promised
 use Rattle.sched.specs.House.{Place, is_fixed, rank_of, without, put}

@@ -1,10 +1,10 @@
 -- Who waits for a lock stands in its row: what the queues tell of waiting, in a house that can have come about.
 use Rattle.std.proofs.Common.{◌≡◌, ℕ, zero, suc, ◌+◌, ◌-◌, ◌<◌, not, eqb, List, [], ◌∷◌, is_some, Some, None, Option, sym, refl, ap, ◌∙◌, subst, arith, MatchOption}
 use Rattle.std.proofs.lemmas.Bool.{eq-eqb, ne_eqb}
-use Rattle.quantities.specs.declared.ids.TaskId.{TaskId}
+use Rattle.quantities.specs.Ids.{TaskId}
 use Rattle.queues.specs.Members.{Member, Free, rest}
 use Rattle.queues.specs.Outcomes.{First}
-use Rattle.queues.specs.declared.queue_id.QueueId.{QueueId}
+use Rattle.quantities.specs.Ids.{QueueId}
 use Rattle.sched.specs.House.{House, first_of, rest_of, runner}
 use Rattle.sched.specs.Promise.{Comes}
 use Rattle.sched.specs.Stores.{owner_of}

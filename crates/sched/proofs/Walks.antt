@@ -1,7 +1,7 @@
 -- Walking along a queue to the first who passes a test: it is `in_turn`, and 64 steps are enough, since nobody stands there twice.
 use Rattle.std.proofs.Common.{◌≡◌, ℕ, zero, suc, ◌+◌, ◌<◌, ◌≤◌, Bool, true, false, cond, ◌&&◌, eqb, List, [], ◌∷◌, ◌++◌, length, Some, None, Option, sym, refl, ap, ◌∙◌, subst, inl, inr, append_assoc, arith, length-append}
 use Rattle.std.proofs.lemmas.Bool.{cond_both, cond-true, cond-false, ne_eqb, cases_eq}
-use Rattle.quantities.specs.declared.ids.TaskId.{TaskId}
+use Rattle.quantities.specs.Ids.{TaskId}
 use Rattle.queues.specs.Members as member
 use Rattle.queues.specs.Rings as queue
 use Rattle.queues.specs.Outcomes.{First}

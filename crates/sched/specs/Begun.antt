@@ -1,6 +1,6 @@
 -- Fair tasks while a tick begins, and once it has begun: against the house in which it begins.
 use Rattle.std.specs.Prelude.{◌≡◌, ℕ, suc, ◌+◌, ◌<◌, Bool, true, false, cond, List, Option, MatchOption, nat_lt, slice_index_or}
-use Rattle.quantities.specs.declared.ids.TaskId.{TaskId}
+use Rattle.quantities.specs.Ids.{TaskId}
 use Rattle.virtual_time.specs.declared.position.Position.{Position}
 use Rattle.sched.specs.declared.fair.Fair.{Fair}
 use Rattle.sched.specs.House.{House, some', weight_of, wants, fair_wants, opened, nearer, least_far, ticked}

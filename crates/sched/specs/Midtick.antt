@@ -1,7 +1,7 @@
 -- A tick on the way: which part of the scheduler stands for which part of the house, and what is to be shown of whoever has the tick.
 -- Assumes nothing.
 use Rattle.std.specs.Prelude.{◌≡◌, ℕ, suc, ◌-◌, ◌<◌, ◌≤◌, Bool, true, false, cond, not, ◌&&◌, ◌||◌, T, Option, MatchOption, ◌==◌, nat_lt}
-use Rattle.quantities.specs.declared.ids.TaskId.{TaskId}
+use Rattle.quantities.specs.Ids.{TaskId}
 use Rattle.windows.specs.declared.Window.TheVariants as window-is
 use Rattle.sched.specs.declared.Scheduler.{Scheduler}
 use Rattle.sched.specs.declared.locks.Locks.{Locks}

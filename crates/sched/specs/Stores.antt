@@ -1,8 +1,8 @@
 -- What the scheduler keeps, against the house of the rules: each array beside the function that it stands for.
 -- Assumes nothing.
 use Rattle.std.specs.Prelude.{◌≡◌, ℕ, suc, ◌+◌, ◌<◌, Bool, false, cond, ◌&&◌, ◌⊎◌, List, [], ◌∷◌, length, Some, None, Option, ◌==◌, slice_index_or}
-use Rattle.quantities.specs.declared.ids.LockId.{LockId}
-use Rattle.quantities.specs.declared.ids.TaskId.{TaskId}
+use Rattle.quantities.specs.Ids.{LockId}
+use Rattle.quantities.specs.Ids.{TaskId}
 use Rattle.queues.specs.Rings as queue
 use Rattle.virtual_time.specs.declared.position.Position.{Position}
 use Rattle.virtual_time.specs.Positions.{made_far, made_rest}

@@ -1,6 +1,6 @@
 use mathlib.Core.Path.{ap, ◌∙◌, subst}
 use borrow.Author.Rules.{rules}
-use Rattle.quantities.specs.declared.ids.LockId.{LockId}
+use Rattle.quantities.specs.Ids.{LockId}
 use Rattle.sched.specs.declared.Scheduler.{Scheduler}
 use Rattle.sched.specs.declared.Call.TheVariants.{Lock}
 use Rattle.sched.specs.House.{House}

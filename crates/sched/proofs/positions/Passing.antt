@@ -1,7 +1,7 @@
 -- A tick passes: whoever had it goes one part on, and the others stand where they stood.
 use Rattle.std.proofs.Common.{◌≡◌, ℕ, suc, ◌+◌, ◌<◌, ◌≤◌, min, Bool, true, false, cond, not, ◌&&◌, eqb, ltb, get_or, set, sym, refl, ap, ◌∙◌, subst, inl, ⊎_elim, arith}
 use Rattle.std.proofs.lemmas.Bool.{cases_eq, and_parts, and_left, and_right, eq-eqb, ne_eqb, lt-ltb}
-use Rattle.quantities.specs.declared.ids.TaskId.{TaskId}
+use Rattle.quantities.specs.Ids.{TaskId}
 use Rattle.virtual_time.specs.declared.position.Position.{Position}
 use Rattle.virtual_time.specs.Positions.{capped, ticked_far, ticked_rest}
 use Rattle.sched.specs.declared.fair.Fair.{Fair}

@@ -1,6 +1,6 @@
 use Rattle.std.proofs.Common.{◌≡◌, Bool, true, false, not, eqb, is_some, Some, None, Option, sym, refl, ap, ◌∙◌, arith}
 use Rattle.std.proofs.lemmas.Bool.{false≢true, not-false, ne_eqb}
-use Rattle.quantities.specs.declared.ids.TaskId.{TaskId}
+use Rattle.quantities.specs.Ids.{TaskId}
 use Rattle.sched.specs.House.{House, is_task}
 use Rattle.sched.specs.Stores.{Holds, owner_of, place_of}
 use Rattle.sched.specs.Held.{can_take}

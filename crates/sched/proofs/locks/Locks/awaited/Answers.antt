@@ -1,6 +1,6 @@
 -- The queue in which it stands is that of the lock for which it waits.
 use Rattle.std.proofs.Common.{◌≡◌, ℕ, suc, ◌<◌, ◌≤◌, Some, None, Option, sym, ap, ◌∙◌, arith, MatchOption}
-use Rattle.quantities.specs.declared.ids.LockId.{LockId}
+use Rattle.quantities.specs.Ids.{LockId}
 use Rattle.sched.specs.Stores.{awaited_of}
 use Rattle.sched.proofs.Waiting.{free-waits, member-waits}
 use Rattle.sched.proofs.locks.Locks.awaited.Goals as goal

@@ -1,5 +1,5 @@
 use Rattle.std.proofs.Common.{◌≡◌, true, Option, sym, ap, ◌∙◌, subst, MatchOption}
-use Rattle.quantities.specs.declared.ids.TaskId.{TaskId}
+use Rattle.quantities.specs.Ids.{TaskId}
 use Rattle.sched.specs.Stores.{window_of}
 use Rattle.sched.specs.Midtick.{sooner_than}
 use Rattle.sched.proofs.Soonest.{sooner-told}

@@ -1,7 +1,7 @@
 -- The place at which the search stops is the first that is free.
 use Rattle.std.proofs.Common.{◌≡◌, ℕ, ◌<◌, ◌≤◌, Bool, true, false, get_or, Some, None, Option, sym, ap, ◌∙◌, arith, rules, MatchOption}
 use Rattle.std.proofs.lemmas.List.{get_or_default}
-use Rattle.quantities.specs.declared.ids.TaskId.{TaskId}
+use Rattle.quantities.specs.Ids.{TaskId}
 use Rattle.sched.specs.declared.tasks.Slot.TheVariants as slot
 use Rattle.sched.specs.House.{some', first, is_nobody}
 use Rattle.sched.specs.Stores.{place_of}
