@@ -9,7 +9,7 @@ mod parts;
 ghost use Rattle.std.specs.Prelude.{◌≡◌, ◌<◌};
 ghost use Rattle.virtual_time.specs.Positions.{capped, ticked_far, ticked_rest, lowered_far, lowered_rest};
 
-#[derive(Clone, Copy)]
+#[derive(Clone, Copy, PartialEq, Eq, Debug)]
 pub struct Position {
     whole: u32,
     rest: u16,
@@ -37,7 +37,7 @@ impl Position {
         ensures rest { result.rest ≡ ticked_rest self.rest self.weight.value }
         ensures weight { result.weight ≡ self.weight }
     {
-        let next = self.rest as u32 + 1;
+        let next = u32::from(self.rest) + 1;
         if next == self.weight.get() {
             Position {
                 whole: self.whole.saturating_add(1),

@@ -1,18 +1,21 @@
 -- What becomes of a reservation's window in a tick.
 -- Assumes nothing.
-use Rattle.std.specs.Prelude.{ℕ, zero, suc, ◌+◌, Bool, true, false, cond, not, ◌&&◌, ◌||◌, nat_lt}
+use Rattle.std.specs.Prelude.{ℕ, zero, suc, ◌+◌, Bool, true, false, Option, Some, None, cond, not, ◌&&◌, ◌||◌, nat_lt}
+use Rattle.windows.specs.declared.span.Span.{Span}
 use Rattle.windows.specs.declared.Window.{Window}
-use Rattle.windows.specs.declared.Window.TheVariants as code
 
 -- A window, by its numbers: so many ticks to go, this one among them, so many had, and whether its task has wanted every one.
 pub data Life : Type 0 where
   Shut : Life
   Open : (ends got : ℕ) → (whole : Bool) → Life
 
+abbrev pub life_of : Option Span → Life
+life_of None = Shut
+life_of (Some s) = Open s.ends s.got s.whole
+
 -- what the code keeps, as its numbers
 abbrev pub life : Window → Life
-life code.Shut = Shut
-life (code.Open s) = Open s.ends s.got s.whole
+life w = life_of w.open
 
 -- A tick begins: one opens if its task wants the tick; one in which its task doesn't want isn't whole any more.
 abbrev pub open_with : Bool → ℕ → Life → Life

@@ -10,11 +10,10 @@ mod span;
 use quantities::promises::Reservation;
 pub use span::Span;
 
-// A reservation has a window, or will have one when its task wants a tick.
-#[derive(Clone, Copy)]
-pub enum Window {
-    Shut,
-    Open(Span),
+// The window of a reservation, unless its task hasn't wanted a tick since the last was over.
+#[derive(Clone, Copy, PartialEq, Eq, Debug)]
+pub struct Window {
+    pub open: Option<Span>,
 }
 
 impl Window {
@@ -23,24 +22,20 @@ impl Window {
     pub fn begin(self, wants: bool, reservation: Reservation) -> Window
         ensures { life result ≡ open_with wants reservation.period (life self) }
     {
-        match self {
-            Window::Shut => {
-                if wants {
-                    return Window::Open(Span::new(reservation));
-                }
-                Window::Shut
-            }
-            Window::Open(span) => Window::Open(span.whole_if(wants)),
-        }
+        let open = match self.open {
+            Some(span) => Some(span.whole_if(wants)),
+            None if wants => Some(Span::new(reservation)),
+            None => None,
+        };
+        Window { open }
     }
 
     // A tick begins for the share of a task that is gone: its window isn't whole any more.
     pub fn begin_kept(self) -> Window
         ensures { life result ≡ open_kept (life self) }
     {
-        match self {
-            Window::Shut => Window::Shut,
-            Window::Open(span) => Window::Open(span.whole_if(false)),
+        Window {
+            open: self.open.map(|span| span.whole_if(false)),
         }
     }
 
@@ -48,14 +43,8 @@ impl Window {
     pub fn pass(self, mine: bool) -> Window
         ensures { life result ≡ passed mine (life self) }
     {
-        match self {
-            Window::Shut => Window::Shut,
-            Window::Open(span) => {
-                if span.is_last() {
-                    return Window::Shut;
-                }
-                Window::Open(span.pass(mine))
-            }
+        Window {
+            open: self.open.and_then(|span| span.pass(mine)),
         }
     }
 
@@ -63,19 +52,13 @@ impl Window {
     pub fn got(self) -> u32
         ensures { result ≡ got_of (life self) }
     {
-        match self {
-            Window::Shut => 0,
-            Window::Open(span) => span.got(),
-        }
+        self.open.map_or(0, |span| span.got())
     }
 
     pub fn is_open(self) -> bool
         ensures { result ≡ is_open (life self) }
     {
-        match self {
-            Window::Shut => false,
-            Window::Open(_) => true,
-        }
+        self.open.is_some()
     }
 
     // Whether this one is to be served before the other: whole ones first, then the earliest end. The end alone isn't
@@ -83,12 +66,6 @@ impl Window {
     pub fn goes_before(self, other: Window) -> bool
         ensures { result ≡ goes_before (life self) (life other) }
     {
-        match self {
-            Window::Shut => false,
-            Window::Open(span) => match other {
-                Window::Shut => true,
-                Window::Open(than) => span.goes_before(than),
-            },
-        }
+        self.open.is_some_and(|span| other.open.is_none_or(|than| span.goes_before(than)))
     }
 }

@@ -1,9 +1,9 @@
 // An open window: how many ticks are left of it, how many were had, and whether its task wanted every one.
-ghost use Rattle.std.specs.Prelude.{◌≡◌, ◌+◌, ◌-◌, ◌<◌, ◌≤◌, true, not, ◌&&◌, ◌||◌, if◌then◌else◌, ◌==◌, nat_lt};
+ghost use Rattle.std.specs.Prelude.{◌≡◌, ◌+◌, ◌<◌, ◌≤◌, true, not, ◌&&◌, ◌||◌, if◌then◌else◌, nat_lt};
 
 use quantities::promises::Reservation;
 
-#[derive(Clone, Copy)]
+#[derive(Clone, Copy, PartialEq, Eq, Debug)]
 pub struct Span {
     ends: u16,
     got: u16,
@@ -13,6 +13,8 @@ pub struct Span {
 }
 
 impl Span {
+    ghost use Rattle.windows.specs.Life.{Open, life_of, passed};
+
     // As long as the period, none had yet, and whole.
     pub(crate) fn new(reservation: Reservation) -> Span
         ensures ends { result.ends ≡ reservation.period }
@@ -39,33 +41,25 @@ impl Span {
         }
     }
 
-    // This tick is the last of it.
-    pub(crate) fn is_last(self) -> bool
-        ensures { result ≡ (self.ends == 1) }
+    // One tick less to go, and one more had if it was this task's; none if this was the last of it.
+    pub(crate) fn pass(self, mine: bool) -> Option<Span>
+        ensures { life_of result ≡ passed mine (Open self.ends self.got self.whole) }
     {
-        self.ends == 1
-    }
-
-    // One tick less to go, and one more had if it was this task's.
-    pub(crate) fn pass(self, mine: bool) -> Span
-        requires { 1 < self.ends }
-        ensures ends { result.ends ≡ self.ends - 1 }
-        ensures got { result.got ≡ (if mine then self.got + 1 else self.got) }
-        ensures whole { result.whole ≡ self.whole }
-    {
-        let got = if mine { self.got + 1 } else { self.got };
-        Span {
-            ends: self.ends - 1,
-            got,
-            whole: self.whole,
+        if self.ends == 1 {
+            return None;
         }
+        Some(Span {
+            ends: self.ends - 1,
+            got: self.got + u16::from(mine),
+            whole: self.whole,
+        })
     }
 
     // How many ticks of it are to come.
     pub fn ends(self) -> u32
         ensures { result ≡ self.ends }
     {
-        self.ends as u32
+        u32::from(self.ends)
     }
 
     // Its task wanted every tick of it until now.
@@ -79,7 +73,7 @@ impl Span {
     pub fn got(self) -> u32
         ensures { result ≡ self.got }
     {
-        self.got as u32
+        u32::from(self.got)
     }
 
     // Whole ones first, then the earliest end.

@@ -48,6 +48,6 @@ impl Position {
         ensures bound { result ≤ weight.value }
     {
         let own = self.weight.get();
-        (self.rest as u32 * weight.get() + (own - 1)) / own
+        (u32::from(self.rest) * weight.get() + (own - 1)) / own
     }
 }

@@ -15,7 +15,7 @@ impl Position {
         ensures value { result ≡ self.rest }
         ensures bound { result < self.weight.value }
     {
-        self.rest as u32
+        u32::from(self.rest)
     }
 
     pub fn weight(self) -> Weight
