@@ -10,7 +10,6 @@ use layout::{Spot, Stretch};
 use quantities::ids::TaskId;
 use sched::Kind;
 use sched::view::{Occupant, View};
-use windows::Window;
 
 // The window of a reservation in a tick.
 #[derive(Clone, Copy)]
@@ -41,8 +40,8 @@ impl WindowInTick {
 
     fn in_tick(view: View, mine: bool, quota: u32, period: u32) -> Option<WindowInTick> {
         let had: u32 = if mine { 1 } else { 0 };
-        match view.window {
-            Window::Shut => {
+        match view.window.span {
+            None => {
                 if !view.wants {
                     return None;
                 }
@@ -55,7 +54,7 @@ impl WindowInTick {
                     period,
                 })
             }
-            Window::Open(span) => Some(WindowInTick {
+            Some(span) => Some(WindowInTick {
                 whole: span.is_whole() && view.wants,
                 opens: false,
                 closes: span.ends() == 1,

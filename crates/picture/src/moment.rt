@@ -18,7 +18,7 @@ const EMPTY: View = View {
     awake: false,
     waits: None,
     wants: false,
-    window: Window::Shut,
+    window: Window { span: None },
 };
 
 impl Moment {

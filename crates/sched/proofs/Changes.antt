@@ -4,7 +4,6 @@ use Rattle.std.proofs.lemmas.Bool.{cond_both}
 use Rattle.quantities.specs.Ids.{TaskId}
 use Rattle.queues.specs.Members.{Free}
 use Rattle.queues.specs.Rings as queue
-use Rattle.windows.specs.declared.Window.TheVariants as window
 use Rattle.sched.specs.declared.Scheduler.{Scheduler}
 use Rattle.sched.specs.declared.promise.Promise.{Promise}
 use Rattle.sched.specs.declared.tasks.Tasks.{Tasks}
@@ -16,7 +15,7 @@ use Rattle.sched.specs.declared.fixed.Fixed.{Fixed}
 use Rattle.sched.specs.declared.fair.Fair.{Fair}
 use Rattle.sched.specs.House.{House, Place, Nobody, A, Kept, Window, Shut, Open, put, makes, first_of, rest_of, leaves, without, is_task, is_reserved, is_fixed, quota_of, period_of, weight_of}
 use Rattle.sched.specs.Promise.{Comes, times}
-use Rattle.sched.specs.Stores.{Reads, place_of, kind_of, task_place, owner_of, window_of, TurnOf, FairlyOf, made_at, Stores}
+use Rattle.sched.specs.Stores.{Reads, place_of, kind_of, task_place, owner_of, window_of, shut, TurnOf, FairlyOf, made_at, Stores}
 use Rattle.sched.proofs.Arrays.{reads-written, reads_same}
 use Rattle.sched.proofs.Puts.{put_both}
 use Rattle.sched.proofs.positions.Standing.{fairly-placed}
@@ -80,7 +79,7 @@ module _ (s : Scheduler) (h : House) (k : Stores s h) where
 
   -- a new task at i, in all that is kept of it
   pub stores-made : (c : Comes h) (t : Tasks) (r : Reserved) (f : Fixed) (g : Fair) (i : ℕ) (p : Promise) → i < 64 → h.place i ≡ Nobody →
-      t.slots ≡ set s.tasks.slots i (slot.Task p) → t.awake ≡ set s.tasks.awake i false → r.windows ≡ set s.reserved.windows i window.Shut →
+      t.slots ≡ set s.tasks.slots i (slot.Task p) → t.awake ≡ set s.tasks.awake i false → r.windows ≡ set s.reserved.windows i shut →
       ((place : ℕ → Place) (turn : List ℕ) → TurnOf s.fixed place turn → times i turn ≡ 0 → TurnOf f (put i (task_place p) place) (turn ++ (i ∷ []))) →
       FairlyOf g (made_at i p h) → Stores (record { tasks = t; locks = s.locks; reserved = r; fixed = f; fair = g }) (made i (kind_of p) h)
   unfolding place_of window_of is_task
@@ -89,14 +88,14 @@ module _ (s : Scheduler) (h : House) (k : Stores s h) where
     awake = reads-written (λ (x : Bool). x) false i false false l awake refl k.awake;
     owners = k.owners;
     rows = k.rows;
-    windows = reads-written window_of window.Shut i window.Shut Shut l windows refl k.windows;
+    windows = reads-written window_of shut i shut Shut l windows refl k.windows;
     turn = turn h.place h.turn k.turn (comes-once c i ∙ ap (λ x. cond (is_task x) 1 0) none);
     fair = fair;
   }
 
   -- i has ended, and left x at its place
   pub stores-ended : (t : Tasks) (f : Fixed) (i : ℕ) (x y : Slot) → i < 64 → t.slots ≡ set s.tasks.slots i x → t.awake ≡ set s.tasks.awake i false →
-      y ≡ get_or s.tasks.slots i slot.Free → place_of x ≡ leaves (window_of (get_or s.reserved.windows i window.Shut)) (place_of y) →
+      y ≡ get_or s.tasks.slots i slot.Free → place_of x ≡ leaves (window_of (get_or s.reserved.windows i shut)) (place_of y) →
       ((place : ℕ → Place) (turn : List ℕ) (p : Place) → TurnOf s.fixed place turn → is_fixed p ≡ false → TurnOf f (put i p place) (without i turn)) →
       Stores (record { tasks = t; locks = s.locks; reserved = s.reserved; fixed = f; fair = s.fair }) (ended i h)
   stores-ended t f i x y l slots awake was left turn =

@@ -1,21 +1,24 @@
 -- What the crate of windows says of one, in the words of the rules.
-use Rattle.std.proofs.Common.{◌≡◌, ℕ, zero, suc, Bool, true, false, cond, sym, refl, ap, ◌∙◌, true≢false}
+use Rattle.std.proofs.Common.{◌≡◌, ℕ, zero, suc, Bool, true, false, cond, Some, None, Option, sym, refl, ap, ◌∙◌, true≢false}
 use mathlib.Core.Bool.{false≢true}
 use Rattle.windows.specs.Life as life
+use Rattle.windows.specs.declared.span.Span.{Span}
 use Rattle.windows.specs.declared.Window as code-window
-use Rattle.windows.specs.declared.Window.TheVariants as window-is
 use Rattle.sched.specs.House.{Place, Nobody, Kept, Window, Shut, Open, open_with, open_kept, passed, got_of, leaves, is_reserved, quota_of, period_of}
-use Rattle.sched.specs.Stores.{window_of, reserved_place}
+use Rattle.sched.specs.Stores.{span_of, window_of, reserved_place}
 
 -- a window by its numbers, as the rules have it
 abbrev pub read : life.Life → Window
 read life.Shut = Shut
 read (life.Open e g b) = Open e g b
 
+span-read : (s : Option Span) → span_of s ≡ read (life.life_of s)
+span-read None = refl
+span-read (Some s) = refl
+
 pub window-read : (w : code-window.Window) → window_of w ≡ read (life.life w)
 unfolding window_of
-window-read window-is.Shut = refl
-window-read (window-is.Open s) = refl
+window-read w = span-read w.span
 
 read-begin : (b : Bool) (p : ℕ) (l : life.Life) → read (life.open_with b p l) ≡ open_with b p (read l)
 unfolding open_with

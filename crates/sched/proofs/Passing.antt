@@ -6,11 +6,10 @@ use Rattle.std.proofs.lemmas.Bool.Decides.{nat_tests}
 use Rattle.quantities.specs.Ids.{TaskId}
 use Rattle.windows.specs.Life as life
 use Rattle.windows.specs.declared.Window as code-window
-use Rattle.windows.specs.declared.Window.TheVariants as window-is
 use Rattle.sched.specs.declared.tasks.Slot.{Slot}
 use Rattle.sched.specs.declared.tasks.Slot.TheVariants as slot
 use Rattle.sched.specs.House.{House, Place, Nobody, Window, Shut, Open, put, is_reserved, period_of, open_with, open_kept, windowed, passed, freed, ticked}
-use Rattle.sched.specs.Stores.{Reads, place_of, window_of, owner_of, reserved_place}
+use Rattle.sched.specs.Stores.{Reads, place_of, window_of, owner_of, reserved_place, shut}
 use Rattle.sched.proofs.Lives.{read, window-read, begin-told, kept-told}
 use Rattle.sched.proofs.Upto.{upto, upto_from, upto-more}
 
@@ -53,9 +52,9 @@ module _ (h : House) (r n i : ℕ) (mine : Bool) (e : i ≡ n) (is : mine ≡ eq
   still-window : passed mine (upto n (ticked h r).window h.window i) ≡ (ticked h r).window i
   still-window = rw (is, upto_from (ticked h r).window h.window n i (omega arith)) refl
 
-  pub pass-windows : (xs : List code-window.Window) → Reads window_of window-is.Shut xs (put i (passed mine (upto n (ticked h r).window h.window i)) (upto n (ticked h r).window h.window)) →
-      Reads window_of window-is.Shut xs (upto (n + 1) (ticked h r).window h.window)
-  pass-windows xs = upto-more (ticked h r).window h.window window_of window-is.Shut xs n i (passed mine (upto n (ticked h r).window h.window i)) e still-window
+  pub pass-windows : (xs : List code-window.Window) → Reads window_of shut xs (put i (passed mine (upto n (ticked h r).window h.window i)) (upto n (ticked h r).window h.window)) →
+      Reads window_of shut xs (upto (n + 1) (ticked h r).window h.window)
+  pass-windows xs = upto-more (ticked h r).window h.window window_of shut xs n i (passed mine (upto n (ticked h r).window h.window i)) e still-window
 
   pub pass-places : (xs : List Slot) → Reads place_of slot.Free xs (put i (freed (passed mine (upto n (ticked h r).window h.window i)) (upto n (ticked h r).place h.place i)) (upto n (ticked h r).place h.place)) →
       Reads place_of slot.Free xs (upto (n + 1) (ticked h r).place h.place)

@@ -40,7 +40,7 @@ module _ (n : ℕ) where
   unfolding good
   rank-bad l = le-ltb n 16 l
 
-  pub rank-kind : (r : Rank) → r.value ≡ n → kind_of (promised.Fixed r) ≡ Fixed n
+  pub rank-kind : (r : Rank) → r.index ≡ n → kind_of (promised.Fixed r) ≡ Fixed n
   unfolding kind_of
   rank-kind r e = cc
 

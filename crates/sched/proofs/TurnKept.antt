@@ -81,11 +81,11 @@ module _ (place : ℕ → Place) (turn : List ℕ) where
           (λ m. d (sym (eqb-true (rank_of (place i)) r (and_parts (is_fixed (place i)) (eqb (rank_of (place i)) r) (keep-member (of_rank place r) i turn m).0).1)))
 
   -- A task is made: the queue of its rank has it last, if it is fixed.
-  pub made-pushed : (t : Queues) (i q : ℕ) (promise : Promise) (rank : Rank) (r : Bool) → promise ≡ promised.Fixed rank → q ≡ rank.value → times i turn ≡ 0 → Pushed t (ranks place turn) q i r →
+  pub made-pushed : (t : Queues) (i q : ℕ) (promise : Promise) (rank : Rank) (r : Bool) → promise ≡ promised.Fixed rank → q ≡ rank.index → times i turn ≡ 0 → Pushed t (ranks place turn) q i r →
       queue.Holds t (ranks (put i (task_place promise) place) (turn ++ (i ∷ [])))
   unfolding kind_of is_fixed rank_of
   made-pushed t i q promise rank r e same none p =
-      rw e (made-fixed i (fixed_place rank.value) none t refl (let P : ℕ → Type 0 = λ n. queue.Holds t (put n (ranks place turn n ++ (i ∷ [])) (ranks place turn)) in subst P same (p.after (p.free (absent-free i none)))))
+      rw e (made-fixed i (fixed_place rank.index) none t refl (let P : ℕ → Type 0 = λ n. queue.Holds t (put n (ranks place turn n ++ (i ∷ [])) (ranks place turn)) in subst P same (p.after (p.free (absent-free i none)))))
 
   -- A tick has passed: the task goes to the end of its rank, if it is fixed.
   pub passed-moved : (s t : Queues) (i : ℕ) (r : Bool) → OnceInTurn place turn → queue.Holds s (ranks place turn) → Moved t (ranks place turn) i r → (r ≡ false → t ≡ s) → queue.Holds t (ranks place (turn_after (suc i) place turn))

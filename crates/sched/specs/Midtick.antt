@@ -2,7 +2,6 @@
 -- Assumes nothing.
 use Rattle.std.specs.Prelude.{◌≡◌, ℕ, suc, ◌-◌, ◌<◌, ◌≤◌, Bool, true, false, cond, not, ◌&&◌, ◌||◌, T, Option, MatchOption, ◌==◌, nat_lt}
 use Rattle.quantities.specs.Ids.{TaskId}
-use Rattle.windows.specs.declared.Window.TheVariants as window-is
 use Rattle.sched.specs.declared.Scheduler.{Scheduler}
 use Rattle.sched.specs.declared.locks.Locks.{Locks}
 use Rattle.sched.specs.declared.tasks.Tasks.{Tasks}
@@ -10,7 +9,7 @@ use Rattle.sched.specs.declared.tasks.Slot.TheVariants as slot
 use Rattle.sched.specs.declared.wants.Wants as code-wants
 use Rattle.sched.specs.declared.reserved.Reserved as code-reserved
 use Rattle.sched.specs.House.{House, Window, Shut, Open, some', is_fixed, wants, due, rank_wants, top_rank, in_turn, may_take, may_rest, opened}
-use Rattle.sched.specs.Stores.{Reads, Locked, TurnOf, place_of, window_of, owner_of}
+use Rattle.sched.specs.Stores.{Reads, Locked, TurnOf, place_of, window_of, owner_of, shut}
 use Rattle.sched.specs.Begun.{Begun}
 use Rattle.sched.specs.Quotas.{Quotas}
 use Rattle.sched.specs.Policy.{whole_due}
@@ -23,7 +22,7 @@ abbrev pub WantsOf : code-wants.Wants → House → Type 0
 WantsOf w h = Reads (λ (b : Bool). b) false w.flags (wants h)
 
 abbrev pub WindowsOf : code-reserved.Reserved → House → Type 0
-WindowsOf r h = Reads window_of window-is.Shut r.windows h.window
+WindowsOf r h = Reads window_of shut r.windows h.window
 
 -- who wants, where a clause has another `wants`
 abbrev pub asking : House → ℕ → Bool

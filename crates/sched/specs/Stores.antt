@@ -1,13 +1,12 @@
 -- What the scheduler keeps, against the house of the rules: each array beside the function that it stands for.
 -- Assumes nothing.
 use Rattle.std.specs.Prelude.{◌≡◌, ℕ, suc, ◌+◌, ◌<◌, Bool, false, cond, ◌&&◌, ◌⊎◌, List, [], ◌∷◌, length, Some, None, Option, ◌==◌, slice_index_or}
-use Rattle.quantities.specs.Ids.{LockId}
-use Rattle.quantities.specs.Ids.{TaskId}
+use Rattle.quantities.specs.Ids.{TaskId, LockId}
 use Rattle.queues.specs.Rings as queue
 use Rattle.virtual_time.specs.declared.position.Position.{Position}
 use Rattle.virtual_time.specs.Positions.{made_far, made_rest}
 use Rattle.windows.specs.declared.Window as code-window
-use Rattle.windows.specs.declared.Window.TheVariants as window-is
+use Rattle.windows.specs.declared.span.Span.{Span}
 use Rattle.sched.specs.declared.Scheduler.{Scheduler}
 use Rattle.sched.specs.declared.Kind.{Kind}
 use Rattle.sched.specs.declared.Kind.TheVariants.{Reserved, Fixed, Fair}
@@ -25,7 +24,7 @@ use Rattle.sched.specs.Quotas.{Quotas}
 -- a promise, as the kind of task that it is made to
 unfoldable pub kind_of : Promise → Kind
 kind_of (promised.Reserved r) = Reserved r.quota r.period
-kind_of (promised.Fixed r) = Fixed r.value
+kind_of (promised.Fixed r) = Fixed r.index
 kind_of (promised.Fair w) = Fair w.value
 
 -- who is at a place
@@ -48,9 +47,17 @@ unfoldable pub awaited_of : Option LockId → ℕ
 awaited_of None = 0
 awaited_of (Some m) = suc m.index
 
+-- a window that is open, or none
+abbrev pub span_of : Option Span → Window
+span_of None = Shut
+span_of (Some s) = Open s.ends s.got s.whole
+
 unfoldable pub window_of : code-window.Window → Window
-window_of window-is.Shut = Shut
-window_of (window-is.Open s) = Open s.ends s.got s.whole
+window_of w = span_of w.span
+
+-- a window that isn't open
+abbrev pub shut : code-window.Window
+shut = record { span = None }
 
 -- the place of a task with this promise
 abbrev pub task_place : Promise → Place
@@ -133,7 +140,7 @@ pub record Stores (s : Scheduler) (h : House) : Type 0 where
   pub awake : Reads (λ (b : Bool). b) false s.tasks.awake h.awake
   pub owners : Reads owner_of None s.locks.owners h.owner
   pub rows : queue.Holds s.locks.waiters h.row
-  pub windows : Reads window_of window-is.Shut s.reserved.windows h.window
+  pub windows : Reads window_of shut s.reserved.windows h.window
   pub turn : TurnOf s.fixed h.place h.turn
   pub fair : FairlyOf s.fair h
 

@@ -11,9 +11,8 @@ use crate::class::Class;
 use crate::promise::Promise;
 use crate::tasks::Tasks;
 use crate::wants::Wants;
-use quantities::ids::TaskId;
-use quantities::promises::Rank;
-use queues::{QueueId, Queues};
+use quantities::ids::{QueueId, Rank, TaskId};
+use queues::Queues;
 
 #[derive(Drop)]
 pub struct Fixed {
@@ -37,7 +36,7 @@ impl Fixed {
         match promise {
             Promise::Reserved(_) => {}
             Promise::Fixed(rank) => {
-                let _pushed = self.turn.push_back(QueueId::of_rank(rank), i);
+                let _pushed = self.turn.push_back(QueueId::from(rank), i);
             }
             Promise::Fair(_) => {}
         }
@@ -63,9 +62,9 @@ impl Fixed {
 
     // The first of a rank that wants the tick.
     fn first_wanting(&self, rank: Rank, wants: &Wants) -> Option<TaskId>
-        ensures { (f : ℕ → List ℕ) (h : House) → Holds self.now.turn f → WantsOf wants.now h → owner_of result ≡ in_turn (asking h) (f rank.value) }
+        ensures { (f : ℕ → List ℕ) (h : House) → Holds self.now.turn f → WantsOf wants.now h → owner_of result ≡ in_turn (asking h) (f rank.index) }
     {
-        let mut at = self.turn.front(QueueId::of_rank(rank));
+        let mut at = self.turn.front(QueueId::from(rank));
         for k in 0..64usize {
             match at {
                 Some(i) => {

@@ -6,8 +6,8 @@ ghost use Rattle.queues.specs.Rings as queue;
 ghost use Rattle.sched.specs.House.{House, empty, put, holds, runner, first_of, rest_of};
 ghost use Rattle.sched.specs.Stores.{Reads, owner_of, awaited_of, Locked};
 
-use quantities::ids::{LockId, TaskId};
-use queues::{QueueId, Queues};
+use quantities::ids::{LockId, QueueId, TaskId};
+use queues::Queues;
 
 #[derive(Drop)]
 pub struct Locks {
@@ -114,7 +114,7 @@ impl Locks {
         ensures owners { self.new.owners ≡ self.old.owners }
         ensures rows { (f : ℕ → List ℕ) → queue.Holds self.old.waiters f → Free f i.index → queue.Holds self.new.waiters (put m.index (f m.index ++ (i.index ∷ [])) f) }
     {
-        let _pushed = self.waiters.push_back(QueueId::of_lock(m), i);
+        let _pushed = self.waiters.push_back(QueueId::from(m), i);
     }
 
     // The lock goes to whoever has waited longest, or is free.
@@ -122,6 +122,6 @@ impl Locks {
         ensures owners { (f : ℕ → List ℕ) (o : ℕ → ℕ) → queue.Holds self.old.waiters f → Reads owner_of option.None self.old.owners o → Reads owner_of option.None self.new.owners (put m.index (first_of (f m.index)) o) }
         ensures rows { (f : ℕ → List ℕ) → queue.Holds self.old.waiters f → queue.Holds self.new.waiters (put m.index (rest_of (f m.index)) f) }
     {
-        self.owners[m.index()] = self.waiters.pop_front(QueueId::of_lock(m));
+        self.owners[m.index()] = self.waiters.pop_front(QueueId::from(m));
     }
 }

@@ -4,7 +4,8 @@ ghost use Rattle.sched.specs.House.{good, share_of_kind, is_reserved, weight_of}
 ghost use Rattle.sched.specs.Stores.{kind_of, task_place, reserved_place};
 
 use crate::Kind;
-use quantities::promises::{Rank, Reservation, Weight};
+use quantities::ids::Rank;
+use quantities::promises::{Reservation, Weight};
 
 #[derive(Clone, Copy)]
 pub enum Promise {
@@ -20,7 +21,7 @@ impl Promise {
     {
         match kind {
             Kind::Reserved(quota, period) => {
-                let Some(reservation) = Reservation::new(quota, period) else {
+                let Ok(reservation) = Reservation::new(quota, period) else {
                     return None;
                 };
                 Some(Promise::Reserved(reservation))
@@ -32,7 +33,7 @@ impl Promise {
                 Some(Promise::Fixed(rank))
             }
             Kind::Fair(number) => {
-                let Some(weight) = Weight::new(number) else {
+                let Ok(weight) = Weight::try_from(number) else {
                     return None;
                 };
                 Some(Promise::Fair(weight))

@@ -1,9 +1,8 @@
 // Reserved tasks: a window each, of which the quota is had in time.
 ghost use Rattle.std.specs.Prelude.{◌≡◌, ℕ, suc, ◌+◌, true, false, MatchOption, ◌==◌, slice_index_or, slice_set};
-ghost use Rattle.windows.specs.declared.Window.TheVariants as window-is;
 ghost use Rattle.sched.specs.House.{House, Place, empty, put, leaves, windowed, passed, freed, ticked, due};
 ghost use Rattle.sched.specs.House.{Window as RulesWindow};
-ghost use Rattle.sched.specs.Stores.{Reads, place_of, window_of, owner_of};
+ghost use Rattle.sched.specs.Stores.{Reads, shut, place_of, window_of, owner_of};
 ghost use Rattle.sched.specs.Midtick.{SlotsOf, WantsOf, WindowsOf, SoonestDue, BestBelow, sooner_than};
 ghost use Rattle.sched.specs.declared.tasks.Slot.TheVariants as slot_is;
 
@@ -20,22 +19,22 @@ pub struct Reserved {
 
 impl Reserved {
     pub fn new() -> Reserved
-        ensures { Reads window_of window-is.Shut result.windows empty.window }
+        ensures { Reads window_of shut result.windows empty.window }
     {
         Reserved {
-            windows: [Window::Shut; 64],
+            windows: [Window { span: None }; 64],
         }
     }
 
     // A new task has no window yet.
     pub fn made(&mut self, i: TaskId)
-        ensures { self.new.windows ≡ slice_set self.old.windows i.index window-is.Shut }
+        ensures { self.new.windows ≡ slice_set self.old.windows i.index shut }
     {
-        self.windows[i.index()] = Window::Shut;
+        self.windows[i.index()] = Window { span: None };
     }
 
     pub fn window(&self, i: TaskId) -> Window
-        ensures { result ≡ slice_index_or self.now.windows i.index window-is.Shut }
+        ensures { result ≡ slice_index_or self.now.windows i.index shut }
     {
         self.windows[i.index()]
     }
@@ -43,7 +42,7 @@ impl Reserved {
     // What a task leaves at its place when it ends: its share, while a window is open. Were the share free at once, it
     // could be made again and had twice in one window.
     pub fn leaves(&self, i: TaskId, slot: Slot) -> Slot
-        ensures { place_of result ≡ leaves (window_of (slice_index_or self.now.windows i.index window-is.Shut)) (place_of slot) }
+        ensures { place_of result ≡ leaves (window_of (slice_index_or self.now.windows i.index shut)) (place_of slot) }
     {
         if !self.window(i).is_open() {
             return Slot::Free;
@@ -67,7 +66,7 @@ impl Reserved {
 
     // The window with which a tick begins.
     fn begun(&self, tasks: &Tasks, wants: &Wants, i: TaskId) -> Window
-        ensures { (h : House) → SlotsOf tasks.now h → WantsOf wants.now h → window_of (slice_index_or self.now.windows i.index window-is.Shut) ≡ h.window i.index → window_of result ≡ (windowed h).window i.index }
+        ensures { (h : House) → SlotsOf tasks.now h → WantsOf wants.now h → window_of (slice_index_or self.now.windows i.index shut) ≡ h.window i.index → window_of result ≡ (windowed h).window i.index }
     {
         match tasks.slot(i).reservation() {
             Some(reservation) => self.window(i).begin(wants.of(i), reservation),
@@ -89,8 +88,8 @@ impl Reserved {
     }
 
     fn pass_at(&mut self, tasks: &mut Tasks, i: TaskId, mine: bool)
-        ensures windows { (w : ℕ → RulesWindow) → Reads window_of window-is.Shut self.old.windows w → Reads window_of window-is.Shut self.new.windows (put i.index (passed mine (w i.index)) w) }
-        ensures places { (w : ℕ → RulesWindow) (p : ℕ → Place) → Reads window_of window-is.Shut self.old.windows w → Reads place_of slot_is.Free tasks.old.slots p → Reads place_of slot_is.Free tasks.new.slots (put i.index (freed (passed mine (w i.index)) (p i.index)) p) }
+        ensures windows { (w : ℕ → RulesWindow) → Reads window_of shut self.old.windows w → Reads window_of shut self.new.windows (put i.index (passed mine (w i.index)) w) }
+        ensures places { (w : ℕ → RulesWindow) (p : ℕ → Place) → Reads window_of shut self.old.windows w → Reads place_of slot_is.Free tasks.old.slots p → Reads place_of slot_is.Free tasks.new.slots (put i.index (freed (passed mine (w i.index)) (p i.index)) p) }
         ensures awake { tasks.new.awake ≡ tasks.old.awake }
     {
         let window = self.window(i).pass(mine);
@@ -111,7 +110,7 @@ impl Reserved {
     }
 
     fn goes_before(&self, i: TaskId, other: Option<TaskId>) -> bool
-        ensures { (w : ℕ → RulesWindow) → Reads window_of window-is.Shut self.now.windows w → MatchOption other (result ≡ true) (λ j. result ≡ sooner_than (w i.index) (w j.index)) }
+        ensures { (w : ℕ → RulesWindow) → Reads window_of shut self.now.windows w → MatchOption other (result ≡ true) (λ j. result ≡ sooner_than (w i.index) (w j.index)) }
     {
         match other {
             Some(j) => self.window(i).goes_before(self.window(j)),

@@ -15,7 +15,7 @@ life_of (Some s) = Open s.ends s.got s.whole
 
 -- what the code keeps, as its numbers
 abbrev pub life : Window → Life
-life w = life_of w.open
+life w = life_of w.span
 
 -- A tick begins: one opens if its task wants the tick; one in which its task doesn't want isn't whole any more.
 abbrev pub open_with : Bool → ℕ → Life → Life

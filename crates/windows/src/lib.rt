@@ -13,7 +13,7 @@ pub use span::Span;
 // The window of a reservation, unless its task hasn't wanted a tick since the last was over.
 #[derive(Clone, Copy, PartialEq, Eq, Debug)]
 pub struct Window {
-    pub open: Option<Span>,
+    pub span: Option<Span>,
 }
 
 impl Window {
@@ -22,12 +22,12 @@ impl Window {
     pub fn begin(self, wants: bool, reservation: Reservation) -> Window
         ensures { life result ≡ open_with wants reservation.period (life self) }
     {
-        let open = match self.open {
+        let span = match self.span {
             Some(span) => Some(span.whole_if(wants)),
             None if wants => Some(Span::new(reservation)),
             None => None,
         };
-        Window { open }
+        Window { span }
     }
 
     // A tick begins for the share of a task that is gone: its window isn't whole any more.
@@ -35,7 +35,7 @@ impl Window {
         ensures { life result ≡ open_kept (life self) }
     {
         Window {
-            open: self.open.map(|span| span.whole_if(false)),
+            span: self.span.map(|span| span.whole_if(false)),
         }
     }
 
@@ -44,7 +44,7 @@ impl Window {
         ensures { life result ≡ passed mine (life self) }
     {
         Window {
-            open: self.open.and_then(|span| span.pass(mine)),
+            span: self.span.and_then(|span| span.pass(mine)),
         }
     }
 
@@ -52,13 +52,13 @@ impl Window {
     pub fn got(self) -> u32
         ensures { result ≡ got_of (life self) }
     {
-        self.open.map_or(0, |span| span.got())
+        self.span.map_or(0, |span| span.got())
     }
 
     pub fn is_open(self) -> bool
         ensures { result ≡ is_open (life self) }
     {
-        self.open.is_some()
+        self.span.is_some()
     }
 
     // Whether this one is to be served before the other: whole ones first, then the earliest end. The end alone isn't
@@ -66,6 +66,6 @@ impl Window {
     pub fn goes_before(self, other: Window) -> bool
         ensures { result ≡ goes_before (life self) (life other) }
     {
-        self.open.is_some_and(|span| other.open.is_none_or(|than| span.goes_before(than)))
+        self.span.is_some_and(|span| other.span.is_none_or(|than| span.goes_before(than)))
     }
 }

@@ -7,14 +7,14 @@ use Rattle.sched.proofs.fixed.Fixed.first_wanting.Goals as goal
 
 pub returns-then-of : goal.returns-then-of
 returns-then-of c f h holds asks =
-    let starts = subst (λ q. First (f q) c.front-at.result) c.of_rank.ensures (c.front-at.ensures f holds) in
-    walk-found (f c.args.rank.value) (asking h) c.loop-k.k c.loop-k.at c.in-Some.i c.in-Some.is (sym (c.of.ensures ∙ asks.at c.in-Some.i.index) ∙ c.if-of.true)
-    (c.loop-k.invariant f h c.args.rank.value holds asks starts)
+    let starts = subst (λ q. First (f q) c.front-at.result) c.from.ensures (c.front-at.ensures f holds) in
+    walk-found (f c.args.rank.index) (asking h) c.loop-k.k c.loop-k.at c.in-Some.i c.in-Some.is (sym (c.of.ensures ∙ asks.at c.in-Some.i.index) ∙ c.if-of.true)
+    (c.loop-k.invariant f h c.args.rank.index holds asks starts)
 
 pub returns-in-None : goal.returns-in-None
 returns-in-None c f h holds asks =
-    let starts = subst (λ q. First (f q) c.front-at.result) c.of_rank.ensures (c.front-at.ensures f holds) in
-    walk_end (f c.args.rank.value) (asking h) c.loop-k.k c.loop-k.at c.in-None.is (c.loop-k.invariant f h c.args.rank.value holds asks starts)
+    let starts = subst (λ q. First (f q) c.front-at.result) c.from.ensures (c.front-at.ensures f holds) in
+    walk_end (f c.args.rank.index) (asking h) c.loop-k.k c.loop-k.at c.in-None.is (c.loop-k.invariant f h c.args.rank.index holds asks starts)
 
 pub loop-k-preserved : goal.loop-k-preserved
 loop-k-preserved c f h q holds asks starts =
@@ -24,8 +24,8 @@ loop-k-preserved c f h q holds asks starts =
 
 pub returns : goal.returns
 returns c f h holds asks =
-    let starts = subst (λ q. First (f q) c.front-at.result) c.of_rank.ensures (c.front-at.ensures f holds) in
+    let starts = subst (λ q. First (f q) c.front-at.result) c.from.ensures (c.front-at.ensures f holds) in
     let e : c.loop-k.k ≡ 64 = omega arith in
-    let w = c.loop-k.invariant f h c.args.rank.value holds asks starts in
-    walk-all (f c.args.rank.value) (asking h) c.loop-k.at (queue-few c.args.self.now.turn f c.args.rank.value holds)
-    (subst (λ k. Walked (f c.args.rank.value) (asking h) k c.loop-k.at) e w)
+    let w = c.loop-k.invariant f h c.args.rank.index holds asks starts in
+    walk-all (f c.args.rank.index) (asking h) c.loop-k.at (queue-few c.args.self.now.turn f c.args.rank.index holds)
+    (subst (λ k. Walked (f c.args.rank.index) (asking h) k c.loop-k.at) e w)

@@ -11,7 +11,7 @@ returns-in-Reserved c place turn h none =
 
 pub returns-in-Fixed : goal.returns-in-Fixed
 returns-in-Fixed c place turn h none =
-    made-pushed place turn c.push_back-pushed.new.self c.args.i.index c.of_rank.result.index c.args.promise c.in-Fixed.rank c.push_back-pushed.result c.in-Fixed.is c.of_rank.ensures none
+    made-pushed place turn c.push_back-pushed.new.self c.args.i.index c.from.result.index c.args.promise c.in-Fixed.rank c.push_back-pushed.result c.in-Fixed.is c.from.ensures none
     (c.push_back-pushed.ensures.after (ranks place turn) h)
 
 pub returns-in-Fair : goal.returns-in-Fair

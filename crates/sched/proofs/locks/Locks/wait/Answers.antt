@@ -9,5 +9,5 @@ returns c = record {
   owners = refl;
   rows = λ f k free.
       let pushed = c.push_back-pushed.ensures.after f k in
-      subst (λ m. queue.Holds c.push_back-pushed.new.self (put m (f m ++ (c.args.i.index ∷ [])) f)) c.of_lock.ensures (pushed.after (pushed.free free));
+      subst (λ m. queue.Holds c.push_back-pushed.new.self (put m (f m ++ (c.args.i.index ∷ [])) f)) c.from.ensures (pushed.after (pushed.free free));
 }

@@ -1,9 +1,8 @@
 use Rattle.std.proofs.Common.{◌≡◌, ℕ, set, sym, ap, ◌∙◌, subst}
-use Rattle.windows.specs.declared.Window.TheVariants as window-is
 use Rattle.sched.specs.declared.tasks.Slot.TheVariants as slot
 use Rattle.sched.specs.declared.tasks.Tasks.{Tasks}
 use Rattle.sched.specs.House.{Window, put, passed, freed}
-use Rattle.sched.specs.Stores.{Reads, place_of, window_of}
+use Rattle.sched.specs.Stores.{Reads, place_of, window_of, shut}
 use Rattle.sched.proofs.Arrays.{reads-written, reads_kept}
 use Rattle.sched.proofs.Lives.{pass-told, shut-told}
 use Rattle.sched.proofs.Passing.{open-keeps}
@@ -13,7 +12,7 @@ use Rattle.sched.proofs.reserved.Reserved.pass_at.Goals.{then-not-is_open, else-
 pub returns : goal.returns
 returns c =
     record {
-      windows = λ w windows. reads-written window_of window-is.Shut c.args.i.index c.pass-window.result (passed c.args.mine (w c.args.i.index)) c.args.i.within
+      windows = λ w windows. reads-written window_of shut c.args.i.index c.pass-window.result (passed c.args.mine (w c.args.i.index)) c.args.i.within
           (ap (λ n. set c.args.self.now.windows n c.pass-window.result) c.index.ensures.value) (told w windows) windows;
       places = λ w p windows slots.
           let P : Tasks → Type 0 = λ t. Reads place_of slot.Free t.slots (put c.args.i.index (freed (passed c.args.mine (w c.args.i.index)) (p c.args.i.index)) p) in
@@ -29,5 +28,5 @@ returns c =
       ];
     }
   where
-    told : (w : ℕ → Window) → Reads window_of window-is.Shut c.args.self.now.windows w → window_of c.pass-window.result ≡ passed c.args.mine (w c.args.i.index)
+    told : (w : ℕ → Window) → Reads window_of shut c.args.self.now.windows w → window_of c.pass-window.result ≡ passed c.args.mine (w c.args.i.index)
     told w windows = pass-told c.window.result c.pass-window.result c.args.mine c.pass-window.ensures ∙ ap (passed c.args.mine) (ap window_of c.window.ensures ∙ windows.at c.args.i.index)
