@@ -10,8 +10,8 @@ returns-in_default c = record { after = λ f h. not-moved h c.args.i.index (c.in
 
 pub returns : goal.returns
 returns c =
-    let q = c.in-Some.q.index in
-    let i = c.args.i.index in
+    let q = c.in-Some.q in
+    let i = c.args.i in
     record {
       after = λ f h. moved h q i (c.in-Some.ensures f h).0 (c.append.ensures ∙ ap (λ s. appended q i s) c.unlink.ensures);
       same = λ e. absurd (true≢false e);

@@ -1,16 +1,11 @@
 -- Who has a place has its ring's next behind it; who has none stands in no queue.
-use Rattle.std.proofs.Common.{refl, arith}
-use Rattle.queues.proofs.Told.{next-told, none-behind, some-place}
+use Rattle.queues.proofs.Told.{next-told, none-behind}
 use Rattle.queues.proofs.fifo.Queues.next.Goals as goal
 
-pub returns-then-link-ge-NONE : goal.returns-then-link-ge-NONE
-returns-then-link-ge-NONE c = record {
-  behind = λ f h q xs ys e. none-behind h q c.args.i.index c.index.result _ xs ys e c.index.ensures.value c.if-link-ge-NONE.true (omega arith);
-  free = λ f h free. refl;
-}
-
 pub returns : goal.returns
-returns c = record {
-  behind = λ f h q xs ys e. next-told h q c.args.i.index c.index.result _ xs ys c.new.result e c.index.ensures.value c.new.ensures (omega arith);
-  free = λ f h free. absurd (some-place h c.args.i.index c.index.result _ c.args.i.within c.index.ensures.value c.if-link-ge-NONE.false (omega arith) free);
-}
+returns c =
+    let i = c.args.i in
+    record {
+      behind = λ f h q xs ys e. next-told h q i.index c.index.result c.index-self-index.result xs ys c.and.result e c.index.ensures.value c.and.ensures;
+      free = λ f h free. none-behind h i.index c.index.result c.index-self-index.result c.and.result i.within c.index.ensures.value c.and.ensures free;
+    }

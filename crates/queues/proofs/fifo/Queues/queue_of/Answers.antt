@@ -1,7 +1,6 @@
--- The place of a member is the number of its queue.
-use Rattle.std.proofs.Common.{arith}
+-- The place of a member is its queue.
 use Rattle.queues.proofs.Told.{queue-told}
 use Rattle.queues.proofs.fifo.Queues.queue_of.Goals as goal
 
 pub returns : goal.returns
-returns c f h = queue-told h c.args.i.index c.index.result _ c.new.result c.args.i.within c.index.ensures.value c.new.ensures (omega arith)
+returns c f h = queue-told h c.args.i.index c.index.result _ c.args.i.within c.index.ensures.value
