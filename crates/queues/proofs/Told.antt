@@ -1,5 +1,5 @@
 -- What the calls answer, read off the links.
-use Rattle.std.proofs.Common.{◌≡◌, ℕ, ◌<◌, ◌≤◌, List, [], ◌∷◌, ◌++◌, replicate, Some, None, Option, false, is_some, get_or, sym, refl, ap, ◌∙◌, subst, inl, inr, arith}
+use Rattle.std.proofs.Common.{◌≡◌, ℕ, ◌<◌, List, [], ◌∷◌, ◌++◌, replicate, Some, None, Option, false, is_some, sym, refl, ap, ◌∙◌, subst, inl, inr, arith}
 use Rattle.std.specs.Option.{option_and}
 use Rattle.std.proofs.lemmas.List.{get_or-replicate}
 use Rattle.quantities.specs.Ids.{TaskId, QueueId}
@@ -9,7 +9,7 @@ use Rattle.queues.specs.declared.fifo.Queues.{Queues}
 use Rattle.queues.specs.Members.{Member, Free}
 use Rattle.queues.specs.Rings.{Holds, Ring, spot, after, before, link_of, ends_of, place_of}
 use Rattle.queues.specs.Outcomes.{First, StandsIn}
-use Rattle.queues.proofs.Writes.{link-read, ends-read, after-of-end, after-of-member}
+use Rattle.queues.proofs.Writes.{after-of-end, after-of-member}
 use Rattle.queues.proofs.Chains.{ring-behind}
 
 -- whoever comes after a in the ring is the first of those behind it, or nobody
@@ -19,9 +19,6 @@ module _ (s : Queues) (q : ℕ) where
   first-told a [] (Some t) ring below told = let z : ⊥ = omega (arith, ring.0, told, t.within) in absurd z
   first-told a (x ∷ xs) None ring below told = let z : ⊥ = omega (arith, ring.0.0, told, below x (inl refl)) in absurd z
   first-told a (x ∷ xs) (Some t) ring below told = ap (λ k. k ∷ xs) (sym ring.0.0 ∙ told)
-
-abbrev behind_of : Link → Option TaskId
-behind_of l = option_and l.at l.next
 
 -- who has no place has nobody behind it, whatever its link says
 and-free : (at : Option QueueId) (r : Option TaskId) → (spot at < 64 → ⊥) → is_some (option_and at r) ≡ false
@@ -33,10 +30,8 @@ and-placed None r b = absurd (omega (arith, b))
 and-placed (Some q) r b = refl
 
 module _ {s : Queues} {f : ℕ → List ℕ} (h : Holds s f) where
-  pub front-told : (q k : ℕ) (d : Ends) → q < 64 → k ≡ q → First (f q) (get_or s.ends k d).head
-  front-told q k d b e =
-      let read = ends-read s k q e d (omega (arith, h.queues)) in
-      first-told s q 64 (f q) (get_or s.ends k d).head (h.ring q b) (h.member q) (after-of-end s q 64 (omega arith) ∙ ap (λ (x : Ends). spot x.head) (sym read))
+  pub front-told : (q : ℕ) → q < 64 → First (f q) (ends_of s q).head
+  front-told q b = first-told s q 64 (f q) (ends_of s q).head (h.ring q b) (h.member q) (after-of-end s q 64 (omega arith))
 
   member_of : (q i : ℕ) (xs ys : List ℕ) → f q ≡ xs ++ (i ∷ ys) → Member i (f q)
   member_of q i xs ys e = subst (λ l. Member i l) (sym e) (among xs)
@@ -45,27 +40,24 @@ module _ {s : Queues} {f : ℕ → List ℕ} (h : Holds s f) where
       among [] = inl refl
       among (z ∷ zs) = inr (among zs)
 
-  pub next-told : (q i k : ℕ) (d : Link) (xs ys : List ℕ) (r : Option TaskId) → f q ≡ xs ++ (i ∷ ys) → k ≡ i → r ≡ behind_of (get_or s.links k d) → First ys r
-  next-told q i k d xs ys r e w told =
+  pub next-told : (q i : ℕ) (xs ys : List ℕ) (r : Option TaskId) → f q ≡ xs ++ (i ∷ ys) → r ≡ option_and (link_of s i).at (link_of s i).next → First ys r
+  next-told q i xs ys r e told =
       let m = member_of q i xs ys e in
       let placed : spot (link_of s i).at < 64 = omega (arith, h.place q i m, h.queue q i m) in
       let first : First ys (link_of s i).next = first-told s q i ys _ (ring-behind s q i 64 xs ys (subst (λ l. Ring s q 64 l) e (h.ring q (h.queue q i m)))) (λ j l. h.member q j (subst (λ z. Member j z) (sym e) (behind j xs l))) (after-of-member s q i (h.member q i m)) in
-      let read = link-read s k i w d (omega (arith, h.members, h.member q i m)) in
-      subst (First ys) (sym (told ∙ (ap behind_of read ∙ and-placed (link_of s i).at (link_of s i).next placed))) first
+      subst (First ys) (sym (told ∙ and-placed (link_of s i).at (link_of s i).next placed)) first
     where
       behind : (j : ℕ) (zs : List ℕ) → Member j ys → Member j (zs ++ (i ∷ ys))
       behind j [] l = inr l
       behind j (z ∷ zs) l = inr (behind j zs l)
 
   -- who stands in no queue has no place, and so nobody behind it
-  pub none-behind : (i k : ℕ) (d : Link) (r : Option TaskId) → i < 64 → k ≡ i → r ≡ behind_of (get_or s.links k d) → Free f i → is_some r ≡ false
-  none-behind i k d r b w told free =
-      let read = link-read s k i w d (omega (arith, h.members)) in
-      ap is_some (told ∙ ap behind_of read) ∙ and-free (link_of s i).at (link_of s i).next (λ p. free (place_of s i) (h.found i b p))
+  pub none-behind : (i : ℕ) (r : Option TaskId) → i < 64 → r ≡ option_and (link_of s i).at (link_of s i).next → Free f i → is_some r ≡ false
+  none-behind i r b told free = ap is_some told ∙ and-free (link_of s i).at (link_of s i).next (λ p. free (place_of s i) (h.found i b p))
 
   -- who has no place stands in no queue, and who has one stands in that queue
-  pub queue-told : (i k : ℕ) (d : Link) → i < 64 → k ≡ i → StandsIn f i (get_or s.links k d).at
-  queue-told i k d b w = subst (λ (l : Link). StandsIn f i l.at) (sym (link-read s k i w d (omega (arith, h.members)))) (told (link_of s i).at refl)
+  pub queue-told : (i : ℕ) → i < 64 → StandsIn f i (link_of s i).at
+  queue-told i b = told (link_of s i).at refl
     where
       told : (r : Option QueueId) → spot r ≡ place_of s i → StandsIn f i r
       told None e = λ q m. omega (arith, e, h.place q i m, h.queue q i m)

@@ -2,7 +2,7 @@
 // A queue is a ring through nobody, who comes after the last member and before the first.
 ghost use Rattle.std.specs.Prelude.{◌≡◌, ℕ, false, List, [], ◌∷◌, ◌++◌, is_some};
 ghost use Rattle.queues.specs.Members.{Free, rest, put};
-ghost use Rattle.queues.specs.Rings.{Holds, spot};
+ghost use Rattle.queues.specs.Rings.{Holds, spot, link_of, ends_of};
 ghost use Rattle.queues.specs.Writes.{set_after, set_before, joined, appended, unlinked};
 ghost use Rattle.queues.specs.Outcomes.{First, StandsIn, Pushed, Removed, Moved};
 
@@ -51,7 +51,7 @@ impl Queues {
     pub fn front(&self, q: QueueId) -> Option<TaskId>
         ensures { (f : ℕ → List ℕ) → Holds self.now f → First (f q.index) result }
     {
-        self.ends[q.index()].head
+        self.ends(q).head
     }
 
     // Who stands right behind i.
@@ -59,7 +59,7 @@ impl Queues {
         ensures behind { (f : ℕ → List ℕ) → Holds self.now f → (q : ℕ) (xs ys : List ℕ) → f q ≡ xs ++ (i.index ∷ ys) → First ys result }
         ensures free { (f : ℕ → List ℕ) → Holds self.now f → Free f i.index → is_some result ≡ false }
     {
-        let link = self.links[i.index()];
+        let link = self.link(i);
         link.at.and(link.next)
     }
 
@@ -67,7 +67,7 @@ impl Queues {
     pub fn queue_of(&self, i: TaskId) -> Option<QueueId>
         ensures { (f : ℕ → List ℕ) → Holds self.now f → StandsIn f i.index result }
     {
-        self.links[i.index()].at
+        self.link(i).at
     }
 
     // Puts i last, unless it stands in a queue already.
@@ -120,11 +120,23 @@ impl Queues {
         true
     }
 
+    fn link(&self, i: TaskId) -> Link
+        ensures { result ≡ link_of self.now i.index }
+    {
+        self.links[i.index()]
+    }
+
+    fn ends(&self, q: QueueId) -> Ends
+        ensures { result ≡ ends_of self.now q.index }
+    {
+        self.ends[q.index()]
+    }
+
     // i, who stands in no queue, becomes the last of q.
     fn append(&mut self, q: QueueId, i: TaskId)
         ensures { self.new ≡ appended q i self.old }
     {
-        let last = self.ends[q.index()].tail;
+        let last = self.ends(q).tail;
         self.join(q, last, Some(i));
         self.join(q, Some(i), None);
         self.links[i.index()].at = Some(q);
@@ -134,7 +146,7 @@ impl Queues {
     fn unlink(&mut self, q: QueueId, i: TaskId)
         ensures { self.new ≡ unlinked q.index i.index self.old }
     {
-        let link = self.links[i.index()];
+        let link = self.link(i);
         self.join(q, link.prev, link.next);
         self.links[i.index()].at = None;
     }

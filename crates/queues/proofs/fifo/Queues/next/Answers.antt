@@ -5,7 +5,8 @@ use Rattle.queues.proofs.fifo.Queues.next.Goals as goal
 pub returns : goal.returns
 returns c =
     let i = c.args.i in
+    let told = rw c.link-link.ensures at c.and.ensures in
     record {
-      behind = λ f h q xs ys e. next-told h q i.index c.index.result c.index-self-index.result xs ys c.and.result e c.index.ensures.value c.and.ensures;
-      free = λ f h free. none-behind h i.index c.index.result c.index-self-index.result c.and.result i.within c.index.ensures.value c.and.ensures free;
+      behind = λ f h q xs ys e. next-told h q i.index xs ys c.and.result e told;
+      free = λ f h free. none-behind h i.index c.and.result i.within told free;
     }

@@ -3,4 +3,4 @@ use Rattle.queues.proofs.Told.{queue-told}
 use Rattle.queues.proofs.fifo.Queues.queue_of.Goals as goal
 
 pub returns : goal.returns
-returns c f h = queue-told h c.args.i.index c.index.result _ c.args.i.within c.index.ensures.value
+returns c f h = rw c.link.ensures (queue-told h c.args.i.index c.args.i.within)

@@ -7,7 +7,5 @@ use Rattle.queues.proofs.fifo.Queues.unlink.Goals as goal
 pub returns : goal.returns
 unfolding unlinked set_place
 returns c =
-    let i = c.args.i.index in
-    let link = link-read c.args.self.now c.index.result i c.index.ensures.value c.index-self-index.result (omega arith) in
-    let left = link-read c.join.new.self c.index-2.result i c.index-2.ensures.value c.index-self-index-2.result (omega arith) in
-    cc (link, left, c.join.ensures)
+    let link = link-read c.join.new.self c.index.result c.args.i.index c.index.ensures.value c.index-self-index.result (omega arith) in
+    cc (link, c.link-link.ensures, c.join.ensures)
