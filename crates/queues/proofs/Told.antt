@@ -1,12 +1,12 @@
 -- What the calls answer, read off the links.
-use Rattle.std.proofs.Common.{◌≡◌, ℕ, ◌<◌, List, [], ◌∷◌, ◌++◌, replicate, Some, None, Option, false, is_some, sym, refl, ap, ◌∙◌, subst, inl, inr, arith}
+use Rattle.std.proofs.Common.{◌≡◌, ℕ, ◌<◌, List, [], ◌∷◌, ◌++◌, replicate, Some, None, Option, sym, refl, ap, ◌∙◌, subst, inl, inr, arith}
 use Rattle.std.specs.Option.{option_and}
 use Rattle.std.proofs.lemmas.List.{get_or-replicate}
 use Rattle.quantities.specs.Ids.{TaskId, QueueId}
 use Rattle.queues.specs.declared.fifo.Link.{Link}
 use Rattle.queues.specs.declared.fifo.Ends.{Ends}
 use Rattle.queues.specs.declared.fifo.Queues.{Queues}
-use Rattle.queues.specs.Members.{Member, Free}
+use Rattle.queues.specs.Members.{Member}
 use Rattle.queues.specs.Rings.{Holds, Ring, spot, after, before, link_of, ends_of, place_of}
 use Rattle.queues.specs.Outcomes.{First, StandsIn}
 use Rattle.queues.proofs.Writes.{after-of-end, after-of-member}
@@ -20,11 +20,7 @@ module _ (s : Queues) (q : ℕ) where
   first-told a (x ∷ xs) None ring below told = let z : ⊥ = omega (arith, ring.0.0, told, below x (inl refl)) in absurd z
   first-told a (x ∷ xs) (Some t) ring below told = ap (λ k. k ∷ xs) (sym ring.0.0 ∙ told)
 
--- who has no place has nobody behind it, whatever its link says
-and-free : (at : Option QueueId) (r : Option TaskId) → (spot at < 64 → ⊥) → is_some (option_and at r) ≡ false
-and-free None r n = refl
-and-free (Some q) r n = absurd (n q.within)
-
+-- who has a place has behind it whom its link says
 and-placed : (at : Option QueueId) (r : Option TaskId) → spot at < 64 → option_and at r ≡ r
 and-placed None r b = absurd (omega (arith, b))
 and-placed (Some q) r b = refl
@@ -50,10 +46,6 @@ module _ {s : Queues} {f : ℕ → List ℕ} (h : Holds s f) where
       behind : (j : ℕ) (zs : List ℕ) → Member j ys → Member j (zs ++ (i ∷ ys))
       behind j [] l = inr l
       behind j (z ∷ zs) l = inr (behind j zs l)
-
-  -- who stands in no queue has no place, and so nobody behind it
-  pub none-behind : (i : ℕ) (r : Option TaskId) → i < 64 → r ≡ option_and (link_of s i).at (link_of s i).next → Free f i → is_some r ≡ false
-  none-behind i r b told free = ap is_some told ∙ and-free (link_of s i).at (link_of s i).next (λ p. free (place_of s i) (h.found i b p))
 
   -- who has no place stands in no queue, and who has one stands in that queue
   pub queue-told : (i : ℕ) → i < 64 → StandsIn f i (link_of s i).at
