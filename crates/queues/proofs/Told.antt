@@ -26,8 +26,8 @@ and-placed None r b = absurd (omega (arith, b))
 and-placed (Some q) r b = refl
 
 module _ {s : Queues} {f : ℕ → List ℕ} (h : Holds s f) where
-  pub front-told : (q : ℕ) → q < 64 → First (f q) (ends_of s q).head
-  front-told q b = first-told s q 64 (f q) (ends_of s q).head (h.ring q b) (h.member q) (after-of-end s q 64 (omega arith))
+  pub front-told : (q : ℕ) (e : Ends) → q < 64 → e ≡ ends_of s q → First (f q) e.head
+  front-told q e b w = first-told s q 64 (f q) e.head (h.ring q b) (h.member q) (after-of-end s q 64 (omega arith) ∙ ap (λ (x : Ends). spot x.head) (sym w))
 
   member_of : (q i : ℕ) (xs ys : List ℕ) → f q ≡ xs ++ (i ∷ ys) → Member i (f q)
   member_of q i xs ys e = subst (λ l. Member i l) (sym e) (among xs)
@@ -36,20 +36,20 @@ module _ {s : Queues} {f : ℕ → List ℕ} (h : Holds s f) where
       among [] = inl refl
       among (z ∷ zs) = inr (among zs)
 
-  pub next-told : (q i : ℕ) (xs ys : List ℕ) (r : Option TaskId) → f q ≡ xs ++ (i ∷ ys) → r ≡ option_and (link_of s i).at (link_of s i).next → First ys r
-  next-told q i xs ys r e told =
+  pub next-told : (q i : ℕ) (xs ys : List ℕ) (l : Link) (r : Option TaskId) → f q ≡ xs ++ (i ∷ ys) → l ≡ link_of s i → r ≡ option_and l.at l.next → First ys r
+  next-told q i xs ys l r e w told =
       let m = member_of q i xs ys e in
-      let placed : spot (link_of s i).at < 64 = omega (arith, h.place q i m, h.queue q i m) in
-      let first : First ys (link_of s i).next = first-told s q i ys _ (ring-behind s q i 64 xs ys (subst (λ l. Ring s q 64 l) e (h.ring q (h.queue q i m)))) (λ j l. h.member q j (subst (λ z. Member j z) (sym e) (behind j xs l))) (after-of-member s q i (h.member q i m)) in
-      subst (First ys) (sym (told ∙ and-placed (link_of s i).at (link_of s i).next placed)) first
+      let placed : spot l.at < 64 = omega (arith, ap (λ (x : Link). spot x.at) w, h.place q i m, h.queue q i m) in
+      let first : First ys l.next = first-told s q i ys l.next (ring-behind s q i 64 xs ys (subst (λ z. Ring s q 64 z) e (h.ring q (h.queue q i m)))) (λ j k. h.member q j (subst (λ z. Member j z) (sym e) (behind j xs k))) (after-of-member s q i (h.member q i m) ∙ ap (λ (x : Link). spot x.next) (sym w)) in
+      subst (First ys) (sym (told ∙ and-placed l.at l.next placed)) first
     where
       behind : (j : ℕ) (zs : List ℕ) → Member j ys → Member j (zs ++ (i ∷ ys))
       behind j [] l = inr l
       behind j (z ∷ zs) l = inr (behind j zs l)
 
   -- who has no place stands in no queue, and who has one stands in that queue
-  pub queue-told : (i : ℕ) → i < 64 → StandsIn f i (link_of s i).at
-  queue-told i b = told (link_of s i).at refl
+  pub queue-told : (i : ℕ) (l : Link) → i < 64 → l ≡ link_of s i → StandsIn f i l.at
+  queue-told i l b w = told l.at (ap (λ (x : Link). spot x.at) w)
     where
       told : (r : Option QueueId) → spot r ≡ place_of s i → StandsIn f i r
       told None e = λ q m. omega (arith, e, h.place q i m, h.queue q i m)

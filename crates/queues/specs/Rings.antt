@@ -7,7 +7,7 @@ use Rattle.queues.specs.declared.fifo.Link.{Link}
 use Rattle.queues.specs.declared.fifo.Ends.{Ends}
 use Rattle.queues.specs.declared.fifo.Queues.{Queues}
 
--- where the named one stands in a ring, and 64 for nobody
+-- the number of whoever or whatever is named, and 64 for none
 abbrev pub spot : {K : Type 0} → Option (Id K 64) → ℕ
 spot None = 64
 spot (Some i) = i.index
