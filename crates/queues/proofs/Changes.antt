@@ -1,11 +1,12 @@
 -- What the calls that change the queues come to.
-use Rattle.std.proofs.Common.{◌≡◌, ℕ, ◌<◌, ◌≤◌, true, false, List, [], ◌∷◌, ◌++◌, sym, refl, ap, ◌∙◌, subst, inl, inr}
-use Rattle.std.proofs.lemmas.Bool.{cases_eq, eq-eqb, ne_eqb}
+use Rattle.std.proofs.Common.{◌≡◌, ℕ, ◌≤◌, true, false, is_some, Option, None, Some, List, [], ◌∷◌, ◌++◌, sym, refl, ap, ◌∙◌, subst, inl, inr}
+use Rattle.std.proofs.lemmas.Bool.{cases_eq, eq-eqb, ne_eqb, true≢false}
+use Rattle.quantities.specs.Ids.{TaskId, QueueId}
 use Rattle.queues.specs.declared.fifo.Queues.{Queues}
 use Rattle.queues.specs.Members.{Member, Free, times, rest, without, put}
 use Rattle.queues.specs.Rings.{Holds}
 use Rattle.queues.specs.Writes.{appended, unlinked}
-use Rattle.queues.specs.Outcomes.{Pushed, Removed, Moved}
+use Rattle.queues.specs.Outcomes.{StandsIn, Pushed, Removed, Moved}
 use Rattle.queues.proofs.Lists.{first-once, without-none, not-without}
 use Rattle.queues.proofs.Standing.{in_one, holds_same}
 use Rattle.queues.proofs.Removal.{unlinked-holds}
@@ -25,11 +26,11 @@ module _ {s : Queues} {f : ℕ → List ℕ} (h : Holds s f) where
   elsewhere q i m r n = without-none i (f r) (λ k. n (in_one h i r q k m))
 
 module _ {s t : Queues} {f : ℕ → List ℕ} (h : Holds s f) where
-  pub pushed : (q i : ℕ) → q < 64 → i < 64 → Free f i → t ≡ appended q i s → Pushed t f q i true
-  pushed q i qb ib free e = record {
+  pub pushed : (q : QueueId) (i : TaskId) → Free f i.index → t ≡ appended q i s → Pushed t f q.index i.index true
+  pushed q i free e = record {
     free = λ _. refl;
     stood = λ p m. absurd (free p m);
-    after = λ _. subst (λ u. Holds u (put q (f q ++ (i ∷ [])) f)) (sym e) (appended-holds s f q i h free qb ib);
+    after = λ _. subst (λ u. Holds u (put q.index (f q.index ++ (i.index ∷ [])) f)) (sym e) (appended-holds s f q i h free);
   }
 
   pub removed : (q i : ℕ) → Member i (f q) → t ≡ unlinked q i s → Removed t f i true
@@ -39,19 +40,19 @@ module _ {s t : Queues} {f : ℕ → List ℕ} (h : Holds s f) where
     after = subst (λ u. Holds u (λ p. without i (f p))) (sym e) (unlinked-holds s f q i h m);
   }
 
-  pub moved : (q i : ℕ) → Member i (f q) → t ≡ appended q i (unlinked q i s) → Moved t f i true
+  pub moved : (q : QueueId) (i : TaskId) → Member i.index (f q.index) → t ≡ appended q i (unlinked q.index i.index s) → Moved t f i.index true
   moved q i m e = record {
-    free = λ free. absurd (free q m);
+    free = λ free. absurd (free q.index m);
     stood = λ _ _. refl;
-    after = λ p k. subst (λ r. Holds t (put r (without i (f r) ++ (i ∷ [])) f)) (in_one h i q p m k) (subst (λ u. Holds u (put q (without i (f q) ++ (i ∷ [])) f)) (sym e) last);
+    after = λ p k. subst (λ r. Holds t (put r (without i.index (f r) ++ (i.index ∷ [])) f)) (in_one h i.index q.index p m k) (subst (λ u. Holds u (put q.index (without i.index (f q.index) ++ (i.index ∷ [])) f)) (sym e) last);
   }
     where
       -- first out of its queue, then last in it
-      twice : Holds (appended q i (unlinked q i s)) (put q (without i (f q) ++ (i ∷ [])) (λ p. without i (f p)))
-      twice = appended-holds (unlinked q i s) (λ p. without i (f p)) q i (unlinked-holds s f q i h m) (λ p. not-without i (f p)) (h.queue q i m) (h.member q i m)
+      twice : Holds (appended q i (unlinked q.index i.index s)) (put q.index (without i.index (f q.index) ++ (i.index ∷ [])) (λ p. without i.index (f p)))
+      twice = appended-holds (unlinked q.index i.index s) (λ p. without i.index (f p)) q i (unlinked-holds s f q.index i.index h m) (λ p. not-without i.index (f p))
 
-      last : Holds (appended q i (unlinked q i s)) (put q (without i (f q) ++ (i ∷ [])) f)
-      last = holds_same twice (same-put f (put q (without i (f q) ++ (i ∷ [])) (λ p. without i (f p))) q (without i (f q) ++ (i ∷ [])) (rw (eq-eqb q q refl) refl) (λ r n. rw (ne_eqb r q n) (elsewhere h q i m r n)))
+      last : Holds (appended q i (unlinked q.index i.index s)) (put q.index (without i.index (f q.index) ++ (i.index ∷ [])) f)
+      last = holds_same twice (same-put f (put q.index (without i.index (f q.index) ++ (i.index ∷ [])) (λ p. without i.index (f p))) q.index (without i.index (f q.index) ++ (i.index ∷ [])) (rw (eq-eqb q.index q.index refl) refl) (λ r n. rw (ne_eqb r q.index n) (elsewhere h q.index i.index m r n)))
 
   pub popped : (q i : ℕ) → f q ≡ i ∷ rest (f q) → t ≡ unlinked q i s → Holds t (put q (rest (f q)) f)
   popped q i e w = subst (λ u. Holds u (put q (rest (f q)) f)) (sym w) (holds_same (unlinked-holds s f q i h m) (same-put f (λ p. without i (f p)) q (rest (f q)) own (elsewhere h q i m)))
@@ -62,7 +63,16 @@ module _ {s t : Queues} {f : ℕ → List ℕ} (h : Holds s f) where
       own : without i (f q) ≡ rest (f q)
       own = ap (λ l. without i l) e ∙ (rw (eq-eqb i i refl) (without-none i (rest (f q)) (first-once i (rest (f q)) (subst (λ l. times i l ≤ 1) e (h.once q i)))))
 
+-- who is told to stand in no queue stands in none
+pub not-standing : (f : ℕ → List ℕ) (i : ℕ) (r : Option QueueId) → StandsIn f i r → is_some r ≡ false → Free f i
+not-standing f i None told e = told
+not-standing f i (Some q) told e = absurd (true≢false e)
+
 -- where nothing is done
+pub not-pushed : (s : Queues) (f : ℕ → List ℕ) (q i : ℕ) (r : Option QueueId) → StandsIn f i r → is_some r ≡ true → Pushed s f q i false
+not-pushed s f q i None told e = absurd (true≢false (sym e))
+not-pushed s f q i (Some p) told e = record { free = λ free. absurd (free p.index told.0); stood = λ p m. refl; after = λ w. absurd (true≢false (sym w)) }
+
 module _ {s : Queues} {f : ℕ → List ℕ} (h : Holds s f) where
   pub not-removed : (i : ℕ) → Free f i → Removed s f i false
   not-removed i free = record {

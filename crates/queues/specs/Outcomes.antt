@@ -1,10 +1,9 @@
 -- What the operations come to, for the queues that a state stands for.
 -- Assumes nothing.
 use Rattle.std.specs.Prelude.{◌≡◌, ℕ, Bool, true, false, List, [], ◌∷◌, ◌++◌, Option, MatchOption}
-use Rattle.quantities.specs.Ids.{TaskId}
+use Rattle.quantities.specs.Ids.{TaskId, QueueId}
 use Rattle.queues.specs.Members.{Member, Free, rest, without, put}
 use Rattle.queues.specs.Rings.{Holds}
-use Rattle.quantities.specs.Ids.{QueueId}
 use Rattle.queues.specs.declared.fifo.Queues.{Queues}
 
 -- r is the first of the list, if it has one

@@ -1,28 +1,34 @@
--- What the links stand for: each queue is a ring through 64, which follows the last and comes before the first.
+-- What the links stand for: each queue is a ring through 64, which stands for nobody: it follows the last and comes before the first.
 -- Assumes nothing.
-use Rattle.std.specs.Prelude.{◌≡◌, ℕ, ◌<◌, ◌≤◌, cond, List, [], ◌∷◌, length, nat_lt, slice_index_or}
+use Rattle.std.specs.Prelude.{◌≡◌, ℕ, ◌<◌, ◌≤◌, cond, List, [], ◌∷◌, Option, None, Some, length, nat_lt, slice_index_or}
+use Rattle.quantities.specs.declared.ids.Id.{Id}
 use Rattle.queues.specs.Members.{Member, times}
 use Rattle.queues.specs.declared.fifo.Link.{Link}
 use Rattle.queues.specs.declared.fifo.Ends.{Ends}
 use Rattle.queues.specs.declared.fifo.Queues.{Queues}
 
+-- the number of whoever or whatever is named, and 64 for none
+abbrev pub spot : {K : Type 0} → Option (Id K 64) → ℕ
+spot None = 64
+spot (Some i) = i.index
+
 abbrev pub link_of : Queues → ℕ → Link
-link_of s i = slice_index_or s.links i (record { next = 0; prev = 0; at = 0 })
+link_of s i = slice_index_or s.links i (record { next = None; prev = None; at = None })
 
 abbrev pub ends_of : Queues → ℕ → Ends
-ends_of s q = slice_index_or s.ends q (record { head = 0; tail = 0 })
+ends_of s q = slice_index_or s.ends q (record { head = None; tail = None })
 
 -- the number of the queue in which i stands, or 64
 abbrev pub place_of : Queues → ℕ → ℕ
-place_of s i = (link_of s i).at
+place_of s i = spot (link_of s i).at
 
 -- who comes after a in the ring of q
 unfoldable pub after : Queues → ℕ → ℕ → ℕ
-after s q a = cond (nat_lt a 64) (link_of s a).next (ends_of s q).head
+after s q a = cond (nat_lt a 64) (spot (link_of s a).next) (spot (ends_of s q).head)
 
 -- who comes before b in the ring of q
 unfoldable pub before : Queues → ℕ → ℕ → ℕ
-before s q b = cond (nat_lt b 64) (link_of s b).prev (ends_of s q).tail
+before s q b = cond (nat_lt b 64) (spot (link_of s b).prev) (spot (ends_of s q).tail)
 
 abbrev pub Linked : Queues → (q a b : ℕ) → Type 0
 Linked s q a b = (after s q a ≡ b) × (before s q b ≡ a)

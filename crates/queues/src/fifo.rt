@@ -1,29 +1,26 @@
 // The queues as links between neighbours, in one array of members and one of ends.
-// A queue is a ring through 64, which stands for nobody: it comes after the last member and before the first.
+// A queue is a ring through nobody, who comes after the last member and before the first.
 ghost use Rattle.std.specs.Prelude.{◌≡◌, ℕ, false, List, [], ◌∷◌, ◌++◌, is_some};
 ghost use Rattle.queues.specs.Members.{Free, rest, put};
-ghost use Rattle.queues.specs.Rings.{Holds};
+ghost use Rattle.queues.specs.Rings.{Holds, spot, link_of, ends_of};
 ghost use Rattle.queues.specs.Writes.{set_after, set_before, joined, appended, unlinked};
 ghost use Rattle.queues.specs.Outcomes.{First, StandsIn, Pushed, Removed, Moved};
 
 use quantities::ids::{QueueId, TaskId};
 
-// Nobody, and no queue.
-const NONE: u8 = 64;
-
 // Who stands behind a member, who stands before it, and in which queue. Unless it stands in one, the neighbours mean nothing.
 #[derive(Clone, Copy)]
 struct Link {
-    next: u8,
-    prev: u8,
-    at: u8,
+    next: Option<TaskId>,
+    prev: Option<TaskId>,
+    at: Option<QueueId>,
 }
 
 // Who stands first in a queue, and who last.
 #[derive(Clone, Copy)]
 struct Ends {
-    head: u8,
-    tail: u8,
+    head: Option<TaskId>,
+    tail: Option<TaskId>,
 }
 
 #[derive(Drop)]
@@ -39,13 +36,13 @@ impl Queues {
     {
         Queues {
             links: [Link {
-                next: NONE,
-                prev: NONE,
-                at: NONE,
+                next: None,
+                prev: None,
+                at: None,
             }; 64],
             ends: [Ends {
-                head: NONE,
-                tail: NONE,
+                head: None,
+                tail: None,
             }; 64],
         }
     }
@@ -54,7 +51,7 @@ impl Queues {
     pub fn front(&self, q: QueueId) -> Option<TaskId>
         ensures { (f : ℕ → List ℕ) → Holds self.now f → First (f q.index) result }
     {
-        TaskId::try_from(u32::from(self.ends[q.index()].head)).ok()
+        self.ends(q).head
     }
 
     // Who stands right behind i.
@@ -62,18 +59,15 @@ impl Queues {
         ensures behind { (f : ℕ → List ℕ) → Holds self.now f → (q : ℕ) (xs ys : List ℕ) → f q ≡ xs ++ (i.index ∷ ys) → First ys result }
         ensures free { (f : ℕ → List ℕ) → Holds self.now f → Free f i.index → is_some result ≡ false }
     {
-        let link = self.links[i.index()];
-        if link.at >= NONE {
-            return None;
-        }
-        TaskId::try_from(u32::from(link.next)).ok()
+        let link = self.link(i);
+        link.at.and(link.next)
     }
 
     // The queue in which i stands.
     pub fn queue_of(&self, i: TaskId) -> Option<QueueId>
         ensures { (f : ℕ → List ℕ) → Holds self.now f → StandsIn f i.index result }
     {
-        QueueId::try_from(u32::from(self.links[i.index()].at)).ok()
+        self.link(i).at
     }
 
     // Puts i last, unless it stands in a queue already.
@@ -81,7 +75,7 @@ impl Queues {
         ensures after { (f : ℕ → List ℕ) → Holds self.old f → Pushed self.new f q.index i.index result }
         ensures same { result ≡ false → self.new ≡ self.old }
     {
-        if self.links[i.index()].at < NONE {
+        if self.queue_of(i).is_some() {
             return false;
         }
         self.append(q, i);
@@ -126,52 +120,60 @@ impl Queues {
         true
     }
 
+    fn link(&self, i: TaskId) -> Link
+        ensures { result ≡ link_of self.now i.index }
+    {
+        self.links[i.index()]
+    }
+
+    fn ends(&self, q: QueueId) -> Ends
+        ensures { result ≡ ends_of self.now q.index }
+    {
+        self.ends[q.index()]
+    }
+
     // i, who stands in no queue, becomes the last of q.
     fn append(&mut self, q: QueueId, i: TaskId)
-        ensures { self.new ≡ appended q.index i.index self.old }
+        ensures { self.new ≡ appended q i self.old }
     {
-        let last = self.ends[q.index()].tail;
-        let k = i.index();
-        self.join(q, last, k as u8);
-        self.join(q, k as u8, NONE);
-        self.links[k].at = q.index() as u8;
+        let last = self.ends(q).tail;
+        self.join(q, last, Some(i));
+        self.join(q, Some(i), None);
+        self.links[i.index()].at = Some(q);
     }
 
     // Takes i out of q, in which it stands.
     fn unlink(&mut self, q: QueueId, i: TaskId)
         ensures { self.new ≡ unlinked q.index i.index self.old }
     {
-        let k = i.index();
-        let link = self.links[k];
+        let link = self.link(i);
         self.join(q, link.prev, link.next);
-        self.links[k].at = NONE;
+        self.links[i.index()].at = None;
     }
 
     // Makes b follow a in the ring of q.
-    fn join(&mut self, q: QueueId, a: u8, b: u8)
+    fn join(&mut self, q: QueueId, a: Option<TaskId>, b: Option<TaskId>)
         ensures { self.new ≡ joined q.index a b self.old }
     {
         self.set_next(q, a, b);
         self.set_prev(q, b, a);
     }
 
-    fn set_next(&mut self, q: QueueId, a: u8, b: u8)
-        ensures { self.new ≡ set_after q.index a b self.old }
+    fn set_next(&mut self, q: QueueId, a: Option<TaskId>, b: Option<TaskId>)
+        ensures { self.new ≡ set_after q.index (spot a) b self.old }
     {
-        if a < NONE {
-            self.links[a as usize].next = b;
-        } else {
-            self.ends[q.index()].head = b;
+        match a {
+            Some(i) => self.links[i.index()].next = b,
+            None => self.ends[q.index()].head = b,
         }
     }
 
-    fn set_prev(&mut self, q: QueueId, b: u8, a: u8)
-        ensures { self.new ≡ set_before q.index b a self.old }
+    fn set_prev(&mut self, q: QueueId, b: Option<TaskId>, a: Option<TaskId>)
+        ensures { self.new ≡ set_before q.index (spot b) a self.old }
     {
-        if b < NONE {
-            self.links[b as usize].prev = a;
-        } else {
-            self.ends[q.index()].tail = a;
+        match b {
+            Some(i) => self.links[i.index()].prev = a,
+            None => self.ends[q.index()].tail = a,
         }
     }
 }

@@ -1,7 +1,7 @@
 -- Every link and every pair of ends is the one that the array repeats.
-use Rattle.std.proofs.Common.{arith}
+use Rattle.std.proofs.Common.{refl}
 use Rattle.queues.proofs.Told.{empty_holds}
 use Rattle.queues.proofs.fifo.Queues.new.Goals as goal
 
 pub returns : goal.returns
-returns c = empty_holds _ _ (omega arith) (omega arith) (omega arith)
+returns c = empty_holds _ _ refl refl refl

@@ -1,14 +1,10 @@
--- Who has no place stands in no queue, and is appended.
-use Rattle.std.proofs.Common.{arith}
-use Rattle.std.proofs.lemmas.Bool.{true≢false}
-use Rattle.queues.proofs.Told.{no_place}
-use Rattle.queues.proofs.Changes.{pushed}
+-- Who is told to stand in no queue is appended.
+use Rattle.std.proofs.Common.{sym, ◌∙◌}
+use Rattle.queues.proofs.Changes.{pushed, not-pushed, not-standing}
 use Rattle.queues.proofs.fifo.Queues.push_back.Goals as goal
 
-pub returns : goal.returns
-returns c =
-    let i = c.args.i.index in
-    record {
-      after = λ f h. pushed h c.args.q.index i c.args.q.within c.args.i.within (no_place h i c.index.result _ c.index.ensures.value c.if-self-index-lt-NONE.false (omega arith)) c.append.ensures;
-      same = λ e. absurd (true≢false e);
-    }
+pub returns-then-is_some-clause-after : goal.returns-then-is_some-clause-after
+returns-then-is_some-clause-after c f h = not-pushed c.args.self.now f c.args.q.index c.args.i.index c.queue_of.result (c.queue_of.ensures f h) (sym c.is_some.ensures ∙ c.if-is_some.true)
+
+pub returns-clause-after : goal.returns-clause-after
+returns-clause-after c f h = pushed h c.args.q c.args.i (not-standing f c.args.i.index c.queue_of.result (c.queue_of.ensures f h) (sym c.is_some.ensures ∙ c.if-is_some.false)) c.append.ensures

@@ -1,13 +1,18 @@
--- The link of a member or the ends of the queue, as the test says.
-use Rattle.std.proofs.Common.{refl}
-use Rattle.std.proofs.lemmas.Bool.{lt-ltb, le-ltb}
-use Rattle.queues.specs.Writes.{set_after}
+-- The link of a member or the ends of the queue, as the spot is.
+use Rattle.std.proofs.Common.{arith}
+use Rattle.queues.proofs.Writes.{link-read, ends-read, after-member, after-end}
 use Rattle.queues.proofs.fifo.Queues.set_next.Goals as goal
 
-pub returns-then-a-lt-NONE : goal.returns-then-a-lt-NONE
-unfolding set_after
-returns-then-a-lt-NONE c = rw (lt-ltb c.args.a 64 c.if-a-lt-NONE.true) refl
+pub returns-in-Some : goal.returns-in-Some
+returns-in-Some c =
+    let s = c.args.self.now in
+    let i = c.in-Some.i in
+    let read = link-read s c.index.result i.index c.index.ensures.value c.index-self-index.result (omega arith) in
+    rw c.in-Some.is (cc (read, after-member s c.args.q.index i.index c.args.b i.within))
 
-pub returns-else-a-lt-NONE : goal.returns-else-a-lt-NONE
-unfolding set_after
-returns-else-a-lt-NONE c = simp (le-ltb c.args.a 64 c.if-a-lt-NONE.false, c.index.ensures.value)
+pub returns-in-None : goal.returns-in-None
+returns-in-None c =
+    let s = c.args.self.now in
+    let q = c.args.q in
+    let read = ends-read s c.index-in-None.result q.index c.index-in-None.ensures.value c.index-self-index-in-None.result (omega arith) in
+    rw c.in-None.is (cc (read, after-end s q.index 64 c.args.b (omega arith)))

@@ -1,13 +1,18 @@
--- The link of a member or the ends of the queue, as the test says.
-use Rattle.std.proofs.Common.{refl}
-use Rattle.std.proofs.lemmas.Bool.{lt-ltb, le-ltb}
-use Rattle.queues.specs.Writes.{set_before}
+-- The link of a member or the ends of the queue, as the spot is.
+use Rattle.std.proofs.Common.{arith}
+use Rattle.queues.proofs.Writes.{link-read, ends-read, before-member, before-end}
 use Rattle.queues.proofs.fifo.Queues.set_prev.Goals as goal
 
-pub returns-then-b-lt-NONE : goal.returns-then-b-lt-NONE
-unfolding set_before
-returns-then-b-lt-NONE c = rw (lt-ltb c.args.b 64 c.if-b-lt-NONE.true) refl
+pub returns-in-Some : goal.returns-in-Some
+returns-in-Some c =
+    let s = c.args.self.now in
+    let i = c.in-Some.i in
+    let read = link-read s c.index.result i.index c.index.ensures.value c.index-self-index.result (omega arith) in
+    rw c.in-Some.is (cc (read, before-member s c.args.q.index i.index c.args.a i.within))
 
-pub returns-else-b-lt-NONE : goal.returns-else-b-lt-NONE
-unfolding set_before
-returns-else-b-lt-NONE c = simp (le-ltb c.args.b 64 c.if-b-lt-NONE.false, c.index.ensures.value)
+pub returns-in-None : goal.returns-in-None
+returns-in-None c =
+    let s = c.args.self.now in
+    let q = c.args.q in
+    let read = ends-read s c.index-in-None.result q.index c.index-in-None.ensures.value c.index-self-index-in-None.result (omega arith) in
+    rw c.in-None.is (cc (read, before-end s q.index 64 c.args.a (omega arith)))
