@@ -112,12 +112,12 @@ impl Scheduler {
         ensures refused { is_no result ≡ true → self.new ≡ self.old }
     {
         match c {
-            Call::Make(kind) => self.make(kind),
-            Call::End(i) => self.end(i),
-            Call::Wake(i) => self.wake(i),
-            Call::Sleep(i) => self.sleep(i),
-            Call::Lock(i, m) => self.lock(i, m),
-            Call::Unlock(i, m) => self.unlock(i, m),
+            Call::Make(kind) => self.make(kind).into(),
+            Call::End(i) => self.end(i).into(),
+            Call::Wake(i) => self.wake(i).into(),
+            Call::Sleep(i) => self.sleep(i).into(),
+            Call::Lock(i, m) => self.lock(i, m).into(),
+            Call::Unlock(i, m) => self.unlock(i, m).into(),
         }
     }
 

@@ -98,13 +98,7 @@ impl Tasks {
     pub fn find(&self, number: u32) -> Option<TaskId>
         ensures { MatchOption result ((nat_lt number 64 && is_task (place_at self.now.slots number)) ≡ false) (λ t. (t.index ≡ number) × (is_task (place_at self.now.slots t.index) ≡ true)) }
     {
-        let Some(i) = TaskId::new(number) else {
-            return None;
-        };
-        if !self.slot(i).is_task() {
-            return None;
-        }
-        Some(i)
+        TaskId::new(number).filter(|&i| self.slot(i).is_task())
     }
 
     // The lowest free place.
