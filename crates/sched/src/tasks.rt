@@ -142,13 +142,8 @@ impl Tasks {
         ensures slots { (f : ℕ → Place) → Reads place_of slot.Free self.old.slots f → Reads place_of slot.Free self.new.slots (put i.index (freed Shut (f i.index)) f) }
         ensures awake { self.new.awake ≡ self.old.awake }
     {
-        let slot = self.slots[i.index()];
-        match slot {
-            Slot::Free => {}
-            Slot::Task(_) => {}
-            Slot::Kept(_) => {
-                self.slots[i.index()] = Slot::Free;
-            }
+        if let Slot::Kept(_) = self.slot(i) {
+            self.slots[i.index()] = Slot::Free;
         }
     }
 
