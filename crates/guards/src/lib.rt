@@ -14,12 +14,8 @@ use sched::{Answer, Call, Scheduler};
 pub fn both(scheduler: &mut Scheduler, i: TaskId) -> bool
     ensures { result ≡ true → (h : House) → Holds scheduler.old h → Both h i.index scheduler.new }
 {
-    let Some(five) = LockId::new(5) else {
-        return false;
-    };
-    let Some(six) = LockId::new(6) else {
-        return false;
-    };
+    let five = LockId::new(5).unwrap();
+    let six = LockId::new(6).unwrap();
     if !scheduler.can_take(i, five) {
         return false;
     }
@@ -35,26 +31,13 @@ pub fn both(scheduler: &mut Scheduler, i: TaskId) -> bool
 pub fn hands_on(scheduler: &mut Scheduler, i: TaskId, j: TaskId) -> bool
     ensures { result ≡ true → (h : House) → Holds scheduler.old h → HandedOn h i.index j.index scheduler.new }
 {
-    let Some(five) = LockId::new(5) else {
-        return false;
-    };
+    let five = LockId::new(5).unwrap();
     if !scheduler.can_take(i, five) {
         return false;
     }
     let mut guard = Guard::take(scheduler, i, five);
-    match guard.call(Call::Lock(j.number(), 5)) {
-        Some(a) => is_done(a),
-        None => false,
-    }
-}
-
-fn is_done(a: Answer) -> bool
-    ensures done { result ≡ true → a ≡ Answer.Done }
-    ensures all { a ≡ Answer.Done → result ≡ true }
-{
-    match a {
-        Answer::Done => true,
-        Answer::Id(_) => false,
-        Answer::No(_) => false,
-    }
+    let Some(told) = guard.call(Call::Lock(j.number(), 5)) else {
+        return false;
+    };
+    matches!(told, Answer::Done)
 }

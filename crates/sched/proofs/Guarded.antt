@@ -6,7 +6,7 @@ use Rattle.sched.specs.declared.Call.TheVariants.{Lock, Unlock}
 use Rattle.sched.specs.declared.Answer.{Answer}
 use Rattle.sched.specs.House.{Out}
 use Rattle.sched.specs.Held.{Ready, Taken, GivenBack, Took, Gave, Let, concerns}
-use Rattle.sched.proofs.Told.{Told}
+use Rattle.sched.specs.Called.{Told}
 use Rattle.sched.proofs.model.Held.{free-takes, takes-taken, held_gives, gives_back, others_keep}
 
 module _ (s t : Scheduler) (i m : ℕ) (l : m < 64) (r : Answer) where

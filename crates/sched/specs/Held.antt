@@ -1,6 +1,6 @@
 -- A lock that is held: when it may be taken at once, that a task has it, and what comes of giving it back.
 -- Assumes nothing.
-use Rattle.std.specs.Prelude.{◌≡◌, ℕ, suc, Bool, true, false, ◌&&◌, ◌==◌, ◌≢◌}
+use Rattle.std.specs.Prelude.{◌≡◌, ℕ, suc, Bool, true, false, ◌&&◌, ◌==◌, ◌≢◌, Option, None, Some}
 use Rattle.sched.specs.declared.Scheduler.{Scheduler}
 use Rattle.sched.specs.declared.Call.{Call}
 use Rattle.sched.specs.declared.Call.TheVariants.{Make, End, Wake, Sleep, Lock, Unlock}
@@ -39,6 +39,15 @@ pub record GivenBack (h g : House) (i m : ℕ) : Type 0 where
   pub others : (n : ℕ) → (n ≢ m) → g.owner n ≡ h.owner n
   pub rest : (n : ℕ) → (n ≢ m) → Held h i n → Held g i n
   pub rows : (n : ℕ) → (n ≢ m) → g.row n ≡ h.row n
+
+-- the task that makes a call, or that it is about
+abbrev pub task_of : Call → Option ℕ
+task_of (Make k) = None
+task_of (End i) = Some i
+task_of (Wake i) = Some i
+task_of (Sleep i) = Some i
+task_of (Lock i m) = Some i
+task_of (Unlock i m) = Some i
 
 -- a call that the task itself makes, or that is about it
 abbrev pub concerns : ℕ → Call → Bool

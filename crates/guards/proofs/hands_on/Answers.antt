@@ -11,21 +11,21 @@ use Rattle.guards.specs.Sections.{HandedOn}
 use Rattle.guards.proofs.Learned.{index, goes_to}
 use Rattle.guards.proofs.hands_on.Goals as goal
 
-pub returns-in-Some-call : goal.returns-in-Some-call
-returns-in-Some-call c done =
+pub returns-in-Done : goal.returns-in-Done
+returns-in-Done c _ =
     let s = c.args.scheduler.now in
     let guard = c.take-guard.result in
     let asked = c.call.new.self in
-    let t = c.drop-guard.new.self.0 in
+    let t = c.drop-guard-in-Done.new.self.0 in
     let i = c.args.i in
     let j = c.args.j in
-    let a = c.in-Some-call.a in
-    let five = c.in-Some.ensures.0 in
+    let a = c.in-Some.told in
+    let five = (rw c.unwrap-five.ensures at c.new.ensures).0 in
     let task₁ = c.take-guard.ensures.ids.0 in
     let task₂ = c.call.ensures.ids.0 ∙ task₁ in
     let lock₂ = ap (λ (m : LockId). m.index) (c.call.ensures.ids.1 ∙ c.take-guard.ensures.ids.1) ∙ five in
     subst (λ (x : Scheduler). (h : House) → Holds s h → HandedOn h i.index j.index x) (search rules) (goes_to s guard.scheduler.now asked.scheduler.now t i.index j.index a
     (subst (Took s guard.scheduler.now i.index) five c.take-guard.ensures.taken)
-    (at_both (λ x y. Let guard.scheduler.now asked.scheduler.now x (Lock y 5) a) (index task₁) c.number.ensures.value c.in-Some-call.ensures.answered)
-    (c.is_done.ensures.done done)
-    (at_both (Gave asked.scheduler.now t) (index task₂) lock₂ c.drop-guard.ensures.given))
+    (at_both (λ x y. Let guard.scheduler.now asked.scheduler.now x (Lock y 5) a) (index task₁) c.number.ensures.value c.in-Some.ensures.answered)
+    c.in-Done.is
+    (at_both (Gave asked.scheduler.now t) (index task₂) lock₂ c.drop-guard-in-Done.ensures.given))

@@ -1,6 +1,6 @@
 -- A task that holds a lock and waits for nothing: it took the lock where it was free, others can't take it away, and it can give it back.
 use Rattle.std.proofs.Common.{◌≡◌, ℕ, suc, ◌-◌, ◌<◌, Bool, true, false, ◌&&◌, eqb, ltb, [], ◌∷◌, ◌++◌, sym, refl, ap, ◌∙◌, subst, arith}
-use Rattle.std.proofs.lemmas.Bool.{and_left, and_right, and_from, eq-eqb, eqb-true, eqb-false, not_from_true, or_from, lt-leb, cond_both, false≢true, true≢false}
+use Rattle.std.proofs.lemmas.Bool.{and_from, eq-eqb, eqb-true, eqb-false, not_from_true, or_from, lt-leb, cond_both, false≢true, true≢false}
 use Rattle.sched.specs.declared.Call.{Call}
 use Rattle.sched.specs.declared.Call.TheVariants.{Make, End, Wake, Sleep, Lock, Unlock}
 use Rattle.sched.specs.declared.Answer.TheVariants.{Done, No}
@@ -24,19 +24,9 @@ can-take-parts h i m e =
     let up = and-true _ _ runs.1 in
     (there.0, eqb-true _ _ runs.0, up.0, eqb-true _ _ up.1)
 
--- THE TEST, by what stands in the way
-module _ (h : House) (i m : ℕ) where
-  pub no-task-cannot : is_task (h.place i) ≡ false → can_take h i m ≡ false
-  no-task-cannot e = and_left (is_a h i) _ (and_right (ltb i 64) _ e)
-
-  pub waits-cannot : eqb (h.waits i) 0 ≡ false → can_take h i m ≡ false
-  waits-cannot e = and_right (is_a h i) _ (and_left (eqb (h.waits i) 0) _ e)
-
-  pub asleep-cannot : h.awake i ≡ false → can_take h i m ≡ false
-  asleep-cannot e = and_right (is_a h i) _ (and_right (eqb (h.waits i) 0) _ (and_left (h.awake i) _ e))
-
-  pub can-if-free : is_a h i ≡ true → eqb (h.waits i) 0 ≡ true → h.awake i ≡ true → can_take h i m ≡ eqb (h.owner m) 0
-  can-if-free a w u = rw (a, w, u) refl
+-- THE TEST, of a task that is there, awake and waits for nothing
+pub can-if-free : (h : House) (i m : ℕ) → is_a h i ≡ true → eqb (h.waits i) 0 ≡ true → h.awake i ≡ true → can_take h i m ≡ eqb (h.owner m) 0
+can-if-free h i m a w u = rw (a, w, u) refl
 
 module _ (h : House) (i m : ℕ) (l : m < 64) where
   -- a free lock is taken at once

@@ -1,6 +1,7 @@
 use Rattle.std.proofs.Common.{refl}
 use Rattle.sched.specs.declared.Call.TheVariants.{Lock}
-use Rattle.sched.proofs.Told.{Told, at_both}
+use Rattle.sched.specs.Called.{Told, answer_of, done}
+use Rattle.sched.proofs.Told.{at_both}
 use Rattle.sched.proofs.Guarded.{took}
 use Rattle.sched.proofs.guard.Guard.take.Goals as goal
 
@@ -8,7 +9,7 @@ pub returns : goal.returns
 returns c =
     let s = c.args.scheduler.now in
     let t = c.lock-done.new.self in
-    let r = c.lock-done.result in
+    let r = answer_of done c.lock-done.result in
     let i = c.args.i in
     let m = c.args.m in
     record {
