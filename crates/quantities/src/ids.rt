@@ -82,6 +82,18 @@ impl From<LockId> for QueueId {
     }
 }
 
+// The lock for which the members of the queue wait, where the queues are those of locks.
+impl From<QueueId> for LockId {
+    ghost from_gives = { λ queue lock. lock.index ≡ queue.index };
+
+    fn from(queue: QueueId) -> LockId {
+        Id {
+            index: queue.index,
+            of: PhantomData,
+        }
+    }
+}
+
 // The queue of those who take turns in the rank.
 impl From<Rank> for QueueId {
     ghost from_gives = { λ rank queue. queue.index ≡ rank.index };

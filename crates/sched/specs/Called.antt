@@ -1,7 +1,7 @@
 -- A call, from the scheduler before it to the one after: what it comes to.
 -- Assumes nothing.
 use Rattle.std.specs.Prelude.{◌≡◌, ℕ, Bool, not, ◌==◌, Result, Ok, Err, OnErr}
-use Rattle.quantities.specs.declared.ids.TaskId.{TaskId}
+use Rattle.quantities.specs.Ids.{TaskId}
 use Rattle.sched.specs.declared.Scheduler.{Scheduler}
 use Rattle.sched.specs.declared.Call.{Call}
 use Rattle.sched.specs.declared.Answer.{Answer}

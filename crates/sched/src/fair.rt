@@ -54,10 +54,8 @@ impl Fair {
         ensures { (h : House) → Comes h → Reads place_of slot.Free tasks.now.slots h.place → Wanting wants.now.flags h → FairlyOf self.old h → Begun self.new h }
     {
         self.least = None;
-        for k in 0..64u32 {
-            if let Some(i) = TaskId::new(k) {
-                self.ask(i, tasks.slot(i).is_fair() && wants.of(i));
-            }
+        for i in TaskId::all() {
+            self.ask(i, tasks.slot(i).is_fair() && wants.of(i));
         }
         self.raise_mark();
     }
@@ -79,8 +77,7 @@ impl Fair {
         ensures { (base w : ℕ) → weight_of (task_place promise) ≡ w → 0 < w → self.now.mark.whole < 1024 → StandsBeyond base w self.now.mark result }
     {
         match promise {
-            Promise::Reserved(_) => Position::start(Weight::one()),
-            Promise::Fixed(_) => Position::start(Weight::one()),
+            Promise::Reserved(_) | Promise::Fixed(_) => Position::start(Weight::one()),
             Promise::Fair(weight) => self.mark.beyond(weight),
         }
     }
@@ -157,9 +154,8 @@ impl Fair {
         if by < FAR {
             return;
         }
-        for k in 0..64usize {
-            let position = self.positions[k];
-            self.positions[k] = position.lowered(by);
+        for position in &mut self.positions {
+            *position = position.lowered(by);
         }
         self.mark = self.mark.lowered(by);
     }

@@ -33,12 +33,8 @@ impl Fixed {
     pub fn made(&mut self, i: TaskId, promise: Promise)
         ensures { (place : ℕ → Place) (turn : List ℕ) → TurnOf self.old place turn → times i.index turn ≡ 0 → TurnOf self.new (put i.index (task_place promise) place) (turn ++ (i.index ∷ [])) }
     {
-        match promise {
-            Promise::Reserved(_) => {}
-            Promise::Fixed(rank) => {
-                let _pushed = self.turn.push_back(QueueId::from(rank), i);
-            }
-            Promise::Fair(_) => {}
+        if let Promise::Fixed(rank) = promise {
+            let _pushed = self.turn.push_back(QueueId::from(rank), i);
         }
     }
 
@@ -52,11 +48,8 @@ impl Fixed {
     pub fn pass(&mut self, whose: Option<TaskId>)
         ensures { (place : ℕ → Place) (turn : List ℕ) → TurnOf self.old place turn → OnceInTurn place turn → TurnOf self.new place (turn_after (owner_of whose) place turn) }
     {
-        match whose {
-            Some(i) => {
-                let _moved = self.turn.move_to_back(i);
-            }
-            None => {}
+        if let Some(i) = whose {
+            let _moved = self.turn.move_to_back(i);
         }
     }
 
@@ -65,28 +58,14 @@ impl Fixed {
         ensures { (f : ℕ → List ℕ) (h : House) → Holds self.now.turn f → WantsOf wants.now h → owner_of result ≡ in_turn (asking h) (f rank.index) }
     {
         let mut at = self.turn.front(QueueId::from(rank));
-        for k in 0..64usize {
-            match at {
-                Some(i) => {
-                    if wants.of(i) {
-                        return Some(i);
-                    }
-                    at = self.turn.next(i);
-                }
-                None => return None,
+        for _step in 0..64 {
+            let i = at?;
+            if wants.of(i) {
+                return Some(i);
             }
+            at = self.turn.next(i);
         }
         None
-    }
-
-    // The same, of the rank of this number, if there is one.
-    fn first_of(&self, number: u32, wants: &Wants) -> Option<TaskId>
-        ensures { (h : House) → TurnOf self.now h.place h.turn → WantsOf wants.now h → number < 16 → owner_of result ≡ in_turn (rank_wants h number) h.turn }
-    {
-        match Rank::new(number) {
-            Some(rank) => self.first_wanting(rank, wants),
-            None => None,
-        }
     }
 }
 
@@ -99,8 +78,8 @@ impl Class for Fixed {
 
     // The first rank of which one wants the tick, and of these the one whose last tick, or making, is the longest ago.
     fn candidate(&self, _tasks: &Tasks, wants: &Wants) -> Option<TaskId> {
-        for k in 0..16u32 {
-            let first = self.first_of(k, wants);
+        for rank in Rank::all() {
+            let first = self.first_wanting(rank, wants);
             if first.is_some() {
                 return first;
             }

@@ -16,16 +16,6 @@ pub struct Locks {
     waiters: Queues,
 }
 
-// Whether the owner is i.
-fn is_owned_by(owner: Option<TaskId>, i: TaskId) -> bool
-    ensures { result ≡ (owner_of owner == suc i.index) }
-{
-    match owner {
-        Some(j) => j.index() == i.index(),
-        None => false,
-    }
-}
-
 impl Locks {
     pub fn new() -> Locks
         ensures owners { Reads owner_of option.None result.owners empty.owner }
@@ -46,7 +36,7 @@ impl Locks {
     pub fn is_owner(&self, m: LockId, i: TaskId) -> bool
         ensures { (h : House) → Locked self.now h → result ≡ (h.owner m.index == suc i.index) }
     {
-        is_owned_by(self.owner(m), i)
+        self.owner(m) == Some(i)
     }
 
     pub fn is_waiting(&self, i: TaskId) -> bool
@@ -59,31 +49,21 @@ impl Locks {
     pub fn awaited(&self, i: TaskId) -> Option<LockId>
         ensures { (h : House) → Locked self.now h → awaited_of result ≡ h.waits i.index }
     {
-        let Some(q) = self.waiters.queue_of(i) else {
-            return None;
-        };
-        LockId::new(q.index() as u32)
+        self.waiters.queue_of(i).map(LockId::from)
     }
 
     // Whether it owns any lock.
     pub fn owns_any(&self, i: TaskId) -> bool
         ensures { (h : House) → Locked self.now h → result ≡ holds h i.index }
     {
-        for m in 0..64usize {
-            if is_owned_by(self.owners[m], i) {
-                return true;
-            }
-        }
-        false
+        self.owners.contains(&Some(i))
     }
 
     // Who owns the lock that it waits for, if it waits.
     fn waits_for(&self, i: TaskId) -> Option<TaskId>
         ensures { (h : House) → Locked self.now h → MatchOption result (h.waits i.index ≡ 0) (λ j. (h.waits i.index ≢ 0) × (h.owner (h.waits i.index - 1) ≡ suc j.index)) }
     {
-        let Some(q) = self.waiters.queue_of(i) else {
-            return None;
-        };
+        let q = self.waiters.queue_of(i)?;
         self.owners[q.index()]
     }
 
@@ -92,7 +72,7 @@ impl Locks {
         ensures { (h : House) → Locked self.now h → result.index ≡ runner 64 h i.index }
     {
         let mut at = i;
-        for k in 0..64usize {
+        for _step in 0..64 {
             let Some(owner) = self.waits_for(at) else {
                 return at;
             };

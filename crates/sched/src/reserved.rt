@@ -1,5 +1,5 @@
 // Reserved tasks: a window each, of which the quota is had in time.
-ghost use Rattle.std.specs.Prelude.{◌≡◌, ℕ, suc, ◌+◌, true, false, MatchOption, ◌==◌, slice_index_or, slice_set};
+ghost use Rattle.std.specs.Prelude.{◌≡◌, ℕ, ◌+◌, true, false, MatchOption, slice_index_or, slice_set};
 ghost use Rattle.sched.specs.House.{House, Place, empty, put, leaves, windowed, passed, freed, ticked, due};
 ghost use Rattle.sched.specs.House.{Window as RulesWindow};
 ghost use Rattle.sched.specs.Stores.{Reads, shut, place_of, window_of, owner_of};
@@ -57,10 +57,8 @@ impl Reserved {
     pub fn begin(&mut self, tasks: &Tasks, wants: &Wants)
         ensures { (h : House) → SlotsOf tasks.now h → WantsOf wants.now h → WindowsOf self.old h → WindowsOf self.new (windowed h) }
     {
-        for k in 0..64u32 {
-            if let Some(i) = TaskId::new(k) {
-                self.windows[i.index()] = self.begun(tasks, wants, i);
-            }
+        for i in TaskId::all() {
+            self.windows[i.index()] = self.begun(tasks, wants, i);
         }
     }
 
@@ -80,10 +78,8 @@ impl Reserved {
         ensures places { (h : House) → WindowsOf self.old h → SlotsOf tasks.old h → SlotsOf tasks.new (ticked h (owner_of whose)) }
         ensures awake { tasks.new.awake ≡ tasks.old.awake }
     {
-        for k in 0..64u32 {
-            if let Some(i) = TaskId::new(k) {
-                self.pass_at(tasks, i, is_mine(whose, i));
-            }
+        for i in TaskId::all() {
+            self.pass_at(tasks, i, whose == Some(i));
         }
     }
 
@@ -118,27 +114,20 @@ impl Reserved {
         }
     }
 
-    // The better of the best so far and whoever is at place k.
-    fn better(&self, tasks: &Tasks, wants: &Wants, best: Option<TaskId>, k: u32) -> Option<TaskId>
-        ensures { (h : House) → SlotsOf tasks.now h → WantsOf wants.now h → WindowsOf self.now h → BestBelow k h best → BestBelow (k + 1) h result }
+    // The better of the best so far and i.
+    fn better(
+        &self,
+        tasks: &Tasks,
+        wants: &Wants,
+        best: Option<TaskId>,
+        i: TaskId,
+    ) -> Option<TaskId>
+        ensures { (h : House) → SlotsOf tasks.now h → WantsOf wants.now h → WindowsOf self.now h → BestBelow i.index h best → BestBelow (i.index + 1) h result }
     {
-        let Some(i) = TaskId::new(k) else {
-            return best;
-        };
         if self.is_due(tasks, wants, i) && self.goes_before(i, best) {
             return Some(i);
         }
         best
-    }
-}
-
-// Whether the tick is i's.
-fn is_mine(whose: Option<TaskId>, i: TaskId) -> bool
-    ensures { result ≡ (owner_of whose == suc i.index) }
-{
-    match whose {
-        Some(j) => j.index() == i.index(),
-        None => false,
     }
 }
 
@@ -152,8 +141,8 @@ impl Class for Reserved {
     // Of the due ones first those whose windows are whole, the earliest end first, then the others; of equals the lowest place.
     fn candidate(&self, tasks: &Tasks, wants: &Wants) -> Option<TaskId> {
         let mut best: Option<TaskId> = None;
-        for k in 0..64u32 {
-            best = self.better(tasks, wants, best, k);
+        for i in TaskId::all() {
+            best = self.better(tasks, wants, best, i);
         }
         best
     }

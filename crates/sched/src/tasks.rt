@@ -112,8 +112,7 @@ impl Tasks {
         ensures bound { result ≤ 645120 }
     {
         let mut sum: u32 = 0;
-        for i in 0..64usize {
-            let slot = self.slots[i];
+        for slot in &self.slots {
             sum += slot.share();
         }
         sum

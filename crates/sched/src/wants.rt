@@ -18,8 +18,8 @@ impl Wants {
         ensures { (h : House) → Seen tasks.now locks.now h → WantsOf result h }
     {
         let mut flags = [false; 64];
-        for i in 0..64usize {
-            flags[i] = asks(tasks, locks, i as u32);
+        for i in TaskId::all() {
+            flags[i.index()] = asks(tasks, locks, i);
         }
         Wants { flags }
     }
@@ -31,12 +31,9 @@ impl Wants {
     }
 }
 
-// Whether the task of this number is there and wants the tick. Its runner doesn't wait, so it is enough that it is awake.
-pub fn asks(tasks: &Tasks, locks: &Locks, number: u32) -> bool
-    ensures { (h : House) → Seen tasks.now locks.now h → result ≡ asking h number }
+// Whether a task is there and wants the tick. Its runner doesn't wait, so it is enough that it is awake.
+pub fn asks(tasks: &Tasks, locks: &Locks, i: TaskId) -> bool
+    ensures { (h : House) → Seen tasks.now locks.now h → result ≡ asking h i.index }
 {
-    match tasks.find(number) {
-        Some(i) => tasks.is_awake(locks.runner(i)),
-        None => false,
-    }
+    tasks.slot(i).is_task() && tasks.is_awake(locks.runner(i))
 }

@@ -1,5 +1,5 @@
 use Rattle.std.proofs.Common.{◌≡◌, ℕ, suc, Some, None, Option, MatchOption, refl, ap, arith, rules}
-use Rattle.quantities.specs.declared.ids.TaskId.{TaskId}
+use Rattle.quantities.specs.Ids.{TaskId}
 use Rattle.sched.specs.House.{House, runner, number_of}
 use Rattle.sched.specs.Stores.{Locked, owner_of}
 use Rattle.sched.proofs.Scheduler.named.Goals as goal

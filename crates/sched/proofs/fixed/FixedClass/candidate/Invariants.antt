@@ -5,6 +5,6 @@ use Rattle.sched.specs.Stores.{TurnOf}
 use Rattle.sched.specs.Midtick.{WantsOf}
 use Rattle.sched.proofs.fixed.FixedClass.candidate.Given as goal
 
-abbrev pub invariant-loop-k : goal.invariant-loop-k
-invariant-loop-k l =
-    (h : House) → WantsOf l.wants h → TurnOf l.self h.place h.turn → (r : ℕ) → r < l.k → in_turn (rank_wants h r) h.turn ≡ 0
+abbrev pub invariant-loop-rank : goal.invariant-loop-rank
+invariant-loop-rank l =
+    (h : House) → WantsOf l.wants h → TurnOf l.self h.place h.turn → (r : ℕ) → r < l.rank-iterator.next → in_turn (rank_wants h r) h.turn ≡ 0

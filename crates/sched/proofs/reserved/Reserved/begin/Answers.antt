@@ -1,30 +1,28 @@
-use Rattle.std.proofs.Common.{◌≡◌, ◌+◌, sym, ap, ◌∙◌, subst, arith}
+use Rattle.std.proofs.Common.{◌≡◌, sym, ap, ◌∙◌, arith, rules}
 use Rattle.sched.specs.declared.tasks.Slot.TheVariants as slot
-use Rattle.sched.specs.declared.reserved.Reserved as code
 use Rattle.sched.specs.House.{windowed}
 use Rattle.sched.specs.Stores.{Reads, place_of, window_of, shut}
-use Rattle.sched.proofs.Upto.{upto, upto-here, upto-set, upto_all, reads-past}
+use Rattle.sched.proofs.Upto.{upto, upto-none, upto-here, upto-set, upto_all, reads-past}
 use Rattle.sched.proofs.Passing.{begin-past}
 use Rattle.sched.proofs.reserved.Reserved.begin.Goals as goal
-use Rattle.sched.proofs.reserved.Reserved.begin.Goals.{in-Some, in_default}
 
-pub loop-k-preserved : goal.loop-k-preserved
-loop-k-preserved c h slots asks windows =
-    elim c.match-new.branch [
-      | in-Some w ↦
-          let here = w.in-Some.ensures.0 in
-          let at = w.index.ensures.value ∙ here in
-          let inv = c.loop-k.invariant h slots asks windows in
-          let told = w.begun.ensures h slots asks (upto-here (windowed h).window h.window window_of shut c.loop-k.self.windows c.loop-k.k w.in-Some.i.index here inv) in
-          let P : code.Reserved → Type 0 = λ s. Reads window_of shut s.windows (upto (c.loop-k.k + 1) (windowed h).window h.window) in
-          subst P (sym w.self-is) (upto-set (windowed h).window h.window window_of shut c.loop-k.self.windows c.loop-k.k w.index.result w.begun.result at c.loop-k-test.true (told ∙ ap (windowed h).window (sym w.index.ensures.value)) inv)
-      | in_default w ↦ absurd (omega (arith, w.in_default.ensures))
-    ]
+pub loop-i-preserved : goal.loop-i-preserved
+loop-i-preserved c h slots asks windows =
+    let n = c.loop-i.i-iterator.next in
+    let here = c.in-Some.ensures.steps.0 in
+    let inv = c.loop-i.invariant h slots asks windows in
+    let told = c.begun.ensures h slots asks (upto-here (windowed h).window h.window window_of shut c.loop-i.self.windows n c.in-Some.i.index here inv) in
+    rw c.in-Some.ensures.steps.1 (upto-set (windowed h).window h.window window_of shut c.loop-i.self.windows n c.index.result c.begun.result (c.index.ensures.value ∙ here) (omega (arith, here, c.in-Some.i.within)) (told ∙ ap (windowed h).window (sym c.index.ensures.value)) inv)
 
 pub returns : goal.returns
 unfolding place_of window_of
 returns c h slots asks windows =
-    let e : c.loop-k.k ≡ 64 = omega arith in
-    let inv : Reads window_of shut c.loop-k.self.windows (upto 64 (windowed h).window h.window) = rw e at (c.loop-k.invariant h slots asks windows) in
-    upto_all (windowed h).window h.window window_of shut c.loop-k.self.windows 64
+    let e : c.loop-i.i-iterator.next ≡ 64 = c.in-None.ensures.steps.0 in
+    let inv : Reads window_of shut c.loop-i.self.windows (upto 64 (windowed h).window h.window) = rw e at (c.loop-i.invariant h slots asks windows) in
+    upto_all (windowed h).window h.window window_of shut c.loop-i.self.windows 64
     (λ k l. begin-past h k (reads-past place_of slot.Free slots k l) (reads-past window_of shut windows k l)) inv
+
+pub loop-i-init : goal.loop-i-init
+loop-i-init c h slots asks windows =
+    let e : c.into_iter-i-iterator.result.next ≡ 0 = search rules in
+    rw e (upto-none (windowed h).window h.window window_of shut c.args.self.now.windows windows)

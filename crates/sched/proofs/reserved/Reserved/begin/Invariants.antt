@@ -5,6 +5,6 @@ use Rattle.sched.specs.Midtick.{SlotsOf, WantsOf, WindowsOf}
 use Rattle.sched.proofs.Upto.{upto}
 use Rattle.sched.proofs.reserved.Reserved.begin.Given as goal
 
-abbrev pub invariant-loop-k : goal.invariant-loop-k
-invariant-loop-k l =
-    (h : House) → SlotsOf l.tasks h → WantsOf l.wants h → WindowsOf l.initial.self h → Reads window_of shut l.self.windows (upto l.k (windowed h).window h.window)
+abbrev pub invariant-loop-i : goal.invariant-loop-i
+invariant-loop-i l =
+    (h : House) → SlotsOf l.tasks h → WantsOf l.wants h → WindowsOf l.initial.self h → Reads window_of shut l.self.windows (upto l.i-iterator.next (windowed h).window h.window)

@@ -8,22 +8,16 @@ use Rattle.sched.proofs.Upto.{reads-past}
 use Rattle.sched.proofs.reserved.Reserved.better.Goals as goal
 use Rattle.sched.proofs.reserved.Reserved.better.Goals.{else-is_due-via-then-is_due+else-goes_before, else-is_due-via-else-is_due}
 
-pub returns-in_default : goal.returns-in_default
-unfolding place_of
-returns-in_default c h slots asks windows b = best-skip h c.args.k c.args.best (past-due h c.args.k (reads-past place_of slot.Free slots c.args.k c.in_default.ensures)) b
-
 pub returns-then-goes_before : goal.returns-then-goes_before
 returns-then-goes_before c h slots asks windows b =
-    let at = c.in-Some.ensures.0 in
-    best-take h c.args.k c.args.best c.goes_before.result c.in-Some.i at (ap (due h) (sym at) ∙ sym (c.is_due.ensures h slots asks windows) ∙ c.if-is_due.true) c.if-goes_before.true
+    best-take h c.args.i.index c.args.best c.goes_before.result c.args.i at (ap (due h) (sym at) ∙ sym (c.is_due.ensures h slots asks windows) ∙ c.if-is_due.true) c.if-goes_before.true
     (let P : ℕ → Type 0 = λ n. MatchOption c.args.best (c.goes_before.result ≡ true) (λ j. c.goes_before.result ≡ sooner_than (h.window n) (h.window j.index)) in subst P at (c.goes_before.ensures h.window windows)) b
 
 pub returns : goal.returns
 returns c h slots asks windows b =
-    let at = c.in-Some.ensures.0 in
     elim c.else-is_due.branch [
       | else-is_due-via-then-is_due+else-goes_before w ↦
-          best-keep h c.args.k c.args.best w.goes_before.result w.if-goes_before.false
+          best-keep h c.args.i.index c.args.best w.goes_before.result w.if-goes_before.false
           (let P : ℕ → Type 0 = λ n. MatchOption c.args.best (w.goes_before.result ≡ true) (λ j. w.goes_before.result ≡ sooner_than (h.window n) (h.window j.index)) in subst P at (w.goes_before.ensures h.window windows)) b
-      | else-is_due-via-else-is_due w ↦ best-skip h c.args.k c.args.best (ap (due h) (sym at) ∙ sym (c.is_due.ensures h slots asks windows) ∙ w.if-is_due.false) b
+      | else-is_due-via-else-is_due w ↦ best-skip h c.args.i.index c.args.best (ap (due h) (sym at) ∙ sym (c.is_due.ensures h slots asks windows) ∙ w.if-is_due.false) b
     ]

@@ -1,43 +1,47 @@
-use Rattle.std.proofs.Common.{◌≡◌, ◌+◌, sym, ap, ◌∙◌, subst, arith}
+use Rattle.std.proofs.Common.{◌≡◌, suc, eqb, refl, ◌∙◌, rules}
 use Rattle.sched.specs.declared.tasks.Slot.TheVariants as slot
-use Rattle.sched.specs.declared.tasks.Tasks.{Tasks}
-use Rattle.sched.specs.declared.reserved.Reserved as code
 use Rattle.sched.specs.House.{ticked}
 use Rattle.sched.specs.Stores.{Reads, place_of, window_of, owner_of, shut}
-use Rattle.sched.proofs.Upto.{upto, upto_all, reads-past}
+use Rattle.sched.proofs.Upto.{upto, upto-none, upto_all, reads-past}
 use Rattle.sched.proofs.Passing.{pass-windows, pass-places, pass-windows-past, pass-places-past}
 use Rattle.sched.proofs.reserved.Reserved.pass.Goals as goal
-use Rattle.sched.proofs.reserved.Reserved.pass.Goals.{in-Some, in_default}
 
-pub loop-k-preserved : goal.loop-k-preserved
-loop-k-preserved c =
-    elim c.match-new.branch [
-      | in-Some w ↦ (
-        λ h windows.
-            let P : code.Reserved → Type 0 = λ s. Reads window_of shut s.windows (upto (c.loop-k.k + 1) (ticked h (owner_of c.args.whose)).window h.window) in
-            subst P (sym w.self-is) (pass-windows h (owner_of c.args.whose) c.loop-k.k w.in-Some.i.index w.is_mine.result w.in-Some.ensures.0 w.is_mine.ensures w.pass_at.new.self.windows
-            (w.pass_at.ensures.windows (upto c.loop-k.k (ticked h (owner_of c.args.whose)).window h.window) (c.loop-k.invariant.0 h windows))),
-        λ h windows slots.
-            let P : Tasks → Type 0 = λ s. Reads place_of slot.Free s.slots (upto (c.loop-k.k + 1) (ticked h (owner_of c.args.whose)).place h.place) in
-            subst P (sym w.tasks-is) (pass-places h (owner_of c.args.whose) c.loop-k.k w.in-Some.i.index w.is_mine.result w.in-Some.ensures.0 w.is_mine.ensures w.pass_at.new.tasks.slots
-            (w.pass_at.ensures.places (upto c.loop-k.k (ticked h (owner_of c.args.whose)).window h.window) (upto c.loop-k.k (ticked h (owner_of c.args.whose)).place h.place) (c.loop-k.invariant.0 h windows) (c.loop-k.invariant.1 h windows slots))),
-        ap (λ (s : Tasks). s.awake) w.tasks-is ∙ w.pass_at.ensures.awake ∙ c.loop-k.invariant.2,
-      )
-      | in_default w ↦ absurd (omega (arith, w.in_default.ensures))
-    ]
+pub loop-i-preserved : goal.loop-i-preserved
+loop-i-preserved c =
+    let n = c.loop-i.i-iterator.next in
+    let r = owner_of c.args.whose in
+    let here = c.in-Some.ensures.steps.0 in
+    let more = c.in-Some.ensures.steps.1 in
+    let mine : c.eq.result ≡ eqb r (suc c.in-Some.i.index) = ? in (
+      λ h windows.
+          rw more (pass-windows h r n c.in-Some.i.index c.eq.result here mine c.pass_at.new.self.windows
+          (c.pass_at.ensures.windows (upto n (ticked h r).window h.window) (c.loop-i.invariant.0 h windows))),
+      λ h windows slots.
+          rw more (pass-places h r n c.in-Some.i.index c.eq.result here mine c.pass_at.new.tasks.slots
+          (c.pass_at.ensures.places (upto n (ticked h r).window h.window) (upto n (ticked h r).place h.place) (c.loop-i.invariant.0 h windows) (c.loop-i.invariant.1 h windows slots))),
+      c.pass_at.ensures.awake ∙ c.loop-i.invariant.2,
+    )
 
 pub returns : goal.returns
 unfolding place_of window_of
 returns c =
-    let e : c.loop-k.k ≡ 64 = omega arith in
+    let e : c.loop-i.i-iterator.next ≡ 64 = c.in-None.ensures.steps.0 in
     record {
       windows = λ h windows.
-          let inv : Reads window_of shut c.loop-k.self.windows (upto 64 (ticked h (owner_of c.args.whose)).window h.window) = rw e at (c.loop-k.invariant.0 h windows) in
-          upto_all (ticked h (owner_of c.args.whose)).window h.window window_of shut c.loop-k.self.windows 64
+          let inv : Reads window_of shut c.loop-i.self.windows (upto 64 (ticked h (owner_of c.args.whose)).window h.window) = rw e at (c.loop-i.invariant.0 h windows) in
+          upto_all (ticked h (owner_of c.args.whose)).window h.window window_of shut c.loop-i.self.windows 64
           (λ k l. pass-windows-past h (owner_of c.args.whose) k (reads-past window_of shut windows k l)) inv;
       places = λ h windows slots.
-          let inv : Reads place_of slot.Free c.loop-k.tasks.slots (upto 64 (ticked h (owner_of c.args.whose)).place h.place) = rw e at (c.loop-k.invariant.1 h windows slots) in
-          upto_all (ticked h (owner_of c.args.whose)).place h.place place_of slot.Free c.loop-k.tasks.slots 64
+          let inv : Reads place_of slot.Free c.loop-i.tasks.slots (upto 64 (ticked h (owner_of c.args.whose)).place h.place) = rw e at (c.loop-i.invariant.1 h windows slots) in
+          upto_all (ticked h (owner_of c.args.whose)).place h.place place_of slot.Free c.loop-i.tasks.slots 64
           (λ k l. pass-places-past h (owner_of c.args.whose) k (reads-past place_of slot.Free slots k l) (reads-past window_of shut windows k l)) inv;
-      awake = c.loop-k.invariant.2;
+      awake = c.loop-i.invariant.2;
     }
+
+pub loop-i-init : goal.loop-i-init
+loop-i-init c =
+    let e : c.into_iter-i-iterator.result.next ≡ 0 = search rules in (
+      λ h windows. rw e (upto-none (ticked h (owner_of c.args.whose)).window h.window window_of shut c.args.self.now.windows windows),
+      λ h windows slots. rw e (upto-none (ticked h (owner_of c.args.whose)).place h.place place_of slot.Free c.args.tasks.now.slots slots),
+      refl,
+    )

@@ -7,8 +7,8 @@ use Rattle.sched.specs.Midtick.{SlotsOf, WindowsOf}
 use Rattle.sched.proofs.Upto.{upto}
 use Rattle.sched.proofs.reserved.Reserved.pass.Given as goal
 
-abbrev pub invariant-loop-k : goal.invariant-loop-k
-invariant-loop-k l =
-    ((h : House) → WindowsOf l.initial.self h → Reads window_of shut l.self.windows (upto l.k (ticked h (owner_of l.whose)).window h.window))
-    × ((h : House) → WindowsOf l.initial.self h → SlotsOf l.initial.tasks h → Reads place_of slot.Free l.tasks.slots (upto l.k (ticked h (owner_of l.whose)).place h.place))
+abbrev pub invariant-loop-i : goal.invariant-loop-i
+invariant-loop-i l =
+    ((h : House) → WindowsOf l.initial.self h → Reads window_of shut l.self.windows (upto l.i-iterator.next (ticked h (owner_of l.whose)).window h.window))
+    × ((h : House) → WindowsOf l.initial.self h → SlotsOf l.initial.tasks h → Reads place_of slot.Free l.tasks.slots (upto l.i-iterator.next (ticked h (owner_of l.whose)).place h.place))
     × (l.tasks.awake ≡ l.initial.tasks.awake)

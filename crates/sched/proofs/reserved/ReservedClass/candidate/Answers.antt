@@ -1,10 +1,20 @@
-use Rattle.std.proofs.Common.{◌≡◌, arith}
+use Rattle.std.proofs.Common.{◌≡◌, ◌+◌, subst, rules, sym}
 use Rattle.sched.specs.Midtick.{BestBelow}
 use Rattle.sched.proofs.Soonest.{best-all}
 use Rattle.sched.proofs.reserved.ReservedClass.candidate.Goals as goal
 
 pub returns : goal.returns
 returns c h slots asks windows =
-    let e : c.loop-k.k ≡ 64 = omega arith in
-    let best : BestBelow 64 h c.loop-k.best = rw e at (c.loop-k.invariant h slots asks windows) in
-    best-all h c.loop-k.best best
+    let e : c.loop-i.i-iterator.next ≡ 64 = c.in-None.ensures.steps.0 in
+    let best : BestBelow 64 h c.loop-i.best = rw e at (c.loop-i.invariant h slots asks windows) in
+    best-all h c.loop-i.best best
+
+pub loop-i-init : goal.loop-i-init
+loop-i-init c h slots asks windows =
+    let e : c.into_iter-i-iterator.result.next ≡ 0 = search rules in
+    rw e ?
+
+pub loop-i-preserved : goal.loop-i-preserved
+loop-i-preserved c h slots asks windows =
+    let here = c.in-Some.ensures.steps.0 in
+    rw c.in-Some.ensures.steps.1 (subst (λ k. BestBelow (k + 1) h c.better.result) here (c.better.ensures h slots asks windows (subst (λ k. BestBelow k h c.loop-i.best) (sym here) (c.loop-i.invariant h slots asks windows))))

@@ -3,5 +3,5 @@ use Rattle.sched.specs.House.{House}
 use Rattle.sched.specs.Midtick.{SlotsOf, WantsOf, WindowsOf, BestBelow}
 use Rattle.sched.proofs.reserved.ReservedClass.candidate.Given as goal
 
-abbrev pub invariant-loop-k : goal.invariant-loop-k
-invariant-loop-k l = (h : House) → SlotsOf l.tasks h → WantsOf l.wants h → WindowsOf l.self h → BestBelow l.k h l.best
+abbrev pub invariant-loop-i : goal.invariant-loop-i
+invariant-loop-i l = (h : House) → SlotsOf l.tasks h → WantsOf l.wants h → WindowsOf l.self h → BestBelow l.i-iterator.next h l.best

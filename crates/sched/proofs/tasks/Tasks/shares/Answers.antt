@@ -7,18 +7,18 @@ use Rattle.sched.specs.Stores.{place_of, place_at}
 use Rattle.sched.proofs.Sums.{sum_more}
 use Rattle.sched.proofs.tasks.Tasks.shares.Goals as goal
 
-pub loop-i-init : goal.loop-i-init
+pub loop-slot-init : goal.loop-slot-init
 unfolding sum
-loop-i-init c = (refl, omega arith)
+loop-slot-init c = (refl, omega arith)
 
-pub loop-i-preserved : goal.loop-i-preserved
-loop-i-preserved c =
+pub loop-slot-preserved : goal.loop-slot-preserved
+loop-slot-preserved c =
     let xs = c.args.self.now.slots in
-    let same : get_or xs c.loop-i.i c.index-self-i.result ≡ get_or xs c.loop-i.i slot.Free = search (rules, get_or_default) in
-    let here : c.share-sum.result ≡ share_of (place_of (get_or xs c.loop-i.i slot.Free)) = c.share-sum.ensures.value ∙ ap (λ s. share_of (place_of s)) same in
-    (rw sum_more (omega (arith, c.loop-i.invariant.0)), omega (arith, c.loop-i.invariant.1))
+    let same : get_or xs c.loop-slot.slot-index c.index-self-i.result ≡ get_or xs c.loop-slot.slot-index slot.Free = search (rules, get_or_default) in
+    let here : c.share-sum.result ≡ share_of (place_of (get_or xs c.loop-slot.slot-index slot.Free)) = c.share-sum.ensures.value ∙ ap (λ s. share_of (place_of s)) same in
+    (rw sum_more (omega (arith, c.loop-slot.invariant.0)), omega (arith, c.loop-slot.invariant.1))
 
 pub returns : goal.returns
 returns c =
-    let e : c.loop-i.i ≡ 64 = omega arith in
-    record { value = c.loop-i.invariant.0 ∙ ap (λ n. sum n (λ i. share_of (place_at c.args.self.now.slots i))) e; bound = omega (arith, c.loop-i.invariant.1) }
+    let e : c.loop-slot.slot-index ≡ 64 = omega arith in
+    record { value = c.loop-slot.invariant.0 ∙ ap (λ n. sum n (λ i. share_of (place_at c.args.self.now.slots i))) e; bound = omega (arith, c.loop-slot.invariant.1) }

@@ -4,5 +4,5 @@ use Rattle.sched.specs.House.{sum, share_of}
 use Rattle.sched.specs.Stores.{place_at}
 use Rattle.sched.proofs.tasks.Tasks.shares.Given as goal
 
-abbrev pub invariant-loop-i : goal.invariant-loop-i
-invariant-loop-i l = (l.sum ≡ sum l.i (λ k. share_of (place_at l.self.slots k))) × (l.sum ≤ 10080 * l.i)
+abbrev pub invariant-loop-slot : goal.invariant-loop-slot
+invariant-loop-slot l = (l.sum ≡ sum l.slot-index (λ k. share_of (place_at l.self.slots k))) × (l.sum ≤ 10080 * l.slot-index)

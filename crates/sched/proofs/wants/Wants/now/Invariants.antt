@@ -7,4 +7,4 @@ use Rattle.sched.proofs.Upto.{upto}
 use Rattle.sched.proofs.wants.Wants.now.Given as goal
 
 abbrev pub invariant-loop-i : goal.invariant-loop-i
-invariant-loop-i l = (h : House) → Seen l.tasks l.locks h → Reads (λ (b : Bool). b) false l.flags (upto l.i (wants h) (λ _. false))
+invariant-loop-i l = (h : House) → Seen l.tasks l.locks h → Reads (λ (b : Bool). b) false l.flags (upto l.i-iterator.next (wants h) (λ _. false))
