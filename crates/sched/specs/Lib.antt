@@ -1,4 +1,5 @@
 pub mod Begun
+pub mod Called
 pub mod Demand
 pub mod Held
 pub mod House

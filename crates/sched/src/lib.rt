@@ -112,12 +112,12 @@ impl Scheduler {
         ensures refused { is_no result ≡ true → self.new ≡ self.old }
     {
         match c {
-            Call::Make(kind) => self.make(kind),
-            Call::End(i) => self.end(i),
-            Call::Wake(i) => self.wake(i),
-            Call::Sleep(i) => self.sleep(i),
-            Call::Lock(i, m) => self.lock(i, m),
-            Call::Unlock(i, m) => self.unlock(i, m),
+            Call::Make(kind) => self.make(kind).into(),
+            Call::End(i) => self.end(i).into(),
+            Call::Wake(i) => self.wake(i).into(),
+            Call::Sleep(i) => self.sleep(i).into(),
+            Call::Lock(i, m) => self.lock(i, m).into(),
+            Call::Unlock(i, m) => self.unlock(i, m).into(),
         }
     }
 
@@ -137,10 +137,8 @@ impl Scheduler {
         ensures number { number_of result.0 ≡ owner_of whose }
         ensures runs { (h : House) (i : ℕ) → Locked self.now.locks h → owner_of whose ≡ suc i → result.1 ≡ runner 64 h i }
     {
-        match whose {
-            Some(i) => (Some(i.number()), self.locks.runner(i).number()),
-            None => (None, 0),
-        }
+        let runs = whose.map_or(0, |i| self.locks.runner(i).number());
+        (whose.map(|i| i.number()), runs)
     }
 }
 

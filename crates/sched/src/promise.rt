@@ -1,6 +1,6 @@
 // What a task was promised, with its numbers known to be good.
-ghost use Rattle.std.specs.Prelude.{◌≡◌, ◌≤◌, true, false, MatchOption, nat_lt};
-ghost use Rattle.sched.specs.House.{good, share_of_kind, is_reserved, weight_of};
+ghost use Rattle.std.specs.Prelude.{◌≡◌, ◌≤◌, true, false, MatchOption};
+ghost use Rattle.sched.specs.House.{good, share_of_kind, is_reserved};
 ghost use Rattle.sched.specs.Stores.{kind_of, task_place, reserved_place};
 
 use crate::Kind;
@@ -41,48 +41,41 @@ impl Promise {
         }
     }
 
-    // The kind of task that it was made to.
-    pub fn kind(self) -> Kind
-        ensures { result ≡ kind_of self }
-    {
-        match self {
-            Promise::Reserved(reservation) => {
-                Kind::Reserved(reservation.quota(), reservation.period())
-            }
-            Promise::Fixed(rank) => Kind::Fixed(rank.index() as u32),
-            Promise::Fair(weight) => Kind::Fair(weight.get()),
-        }
-    }
-
-    pub fn is_fair(self) -> bool
-        ensures { result ≡ nat_lt 0 (weight_of (task_place self)) }
-    {
-        match self {
-            Promise::Reserved(_) => false,
-            Promise::Fixed(_) => false,
-            Promise::Fair(_) => true,
-        }
-    }
-
+    #[tactic(auto, unfolding(crate::specs::Stores::kind_of, crate::specs::House::is_reserved))]
     pub fn reservation(self) -> Option<Reservation>
         ensures { MatchOption result (is_reserved (task_place self) ≡ false) (λ x. task_place self ≡ reserved_place x.quota x.period) }
     {
         match self {
             Promise::Reserved(reservation) => Some(reservation),
-            Promise::Fixed(_) => None,
-            Promise::Fair(_) => None,
+            Promise::Fixed(_) | Promise::Fair(_) => None,
         }
     }
 
     // Its part of the processor, in 10,080ths; only a reservation has one.
+    #[tactic(auto, unfolding(crate::specs::Stores::kind_of, crate::specs::House::share_of_kind))]
     pub fn share(self) -> u32
         ensures value { result ≡ share_of_kind (kind_of self) }
         ensures bound { result ≤ 10080 }
     {
         match self {
             Promise::Reserved(reservation) => reservation.share().parts(),
-            Promise::Fixed(_) => 0,
-            Promise::Fair(_) => 0,
+            Promise::Fixed(_) | Promise::Fair(_) => 0,
+        }
+    }
+}
+
+// The kind of task that it was made to.
+impl From<Promise> for Kind {
+    ghost from_gives = { λ p k. k ≡ kind_of p };
+
+    #[tactic(auto, unfolding(crate::specs::Stores::kind_of))]
+    fn from(promise: Promise) -> Kind {
+        match promise {
+            Promise::Reserved(reservation) => {
+                Kind::Reserved(reservation.quota(), reservation.period())
+            }
+            Promise::Fixed(rank) => Kind::Fixed(rank.index() as u32),
+            Promise::Fair(weight) => Kind::Fair(weight.get()),
         }
     }
 }

@@ -1,10 +1,12 @@
-// Why a call is turned away.
+// Why a call is turned away, and what callers are told of its result.
 ghost use Rattle.std.specs.Prelude.{◌≡◌};
+ghost use Rattle.sched.specs.Called.{answer_of, done, id_of};
 ghost use Rattle.sched.specs.Refusals.{refused_by};
 
 use crate::Answer;
+use quantities::ids::TaskId;
 
-#[derive(Clone, Copy)]
+#[derive(Clone, Copy, PartialEq, Eq, Debug)]
 pub enum Refusal {
     // no such period, quota, rank or weight; or no such lock
     BadNumber = 1,
@@ -24,10 +26,32 @@ pub enum Refusal {
     Waits = 9,
 }
 
-impl Refusal {
-    pub fn answer(self) -> Answer
-        ensures { result ≡ refused_by self }
-    {
-        Answer::No(self as u32)
+impl From<Refusal> for Answer {
+    ghost from_gives = { λ e a. a ≡ refused_by e };
+
+    fn from(refusal: Refusal) -> Answer {
+        Answer::No(refusal as u32)
+    }
+}
+
+impl From<Result<(), Refusal>> for Answer {
+    ghost from_gives = { λ r a. a ≡ answer_of done r };
+
+    fn from(outcome: Result<(), Refusal>) -> Answer {
+        match outcome {
+            Ok(()) => Answer::Done,
+            Err(refusal) => refusal.into(),
+        }
+    }
+}
+
+impl From<Result<TaskId, Refusal>> for Answer {
+    ghost from_gives = { λ r a. a ≡ answer_of id_of r };
+
+    fn from(outcome: Result<TaskId, Refusal>) -> Answer {
+        match outcome {
+            Ok(i) => Answer::Id(i.number()),
+            Err(refusal) => refusal.into(),
+        }
     }
 }

@@ -17,48 +17,40 @@ pub enum Slot {
 }
 
 impl Slot {
+    #[tactic(auto, unfolding(crate::specs::Stores::place_of, crate::specs::House::is_nobody))]
     pub fn is_free(self) -> bool
         ensures { result ≡ is_nobody (place_of self) }
     {
-        match self {
-            Slot::Free => true,
-            Slot::Task(_) => false,
-            Slot::Kept(_) => false,
-        }
+        matches!(self, Slot::Free)
     }
 
+    #[tactic(auto, unfolding(crate::specs::Stores::place_of, crate::specs::House::is_task))]
     pub fn is_task(self) -> bool
         ensures { result ≡ is_task (place_of self) }
     {
-        match self {
-            Slot::Free => false,
-            Slot::Task(_) => true,
-            Slot::Kept(_) => false,
-        }
+        matches!(self, Slot::Task(_))
     }
 
+    #[tactic(auto, unfolding(crate::specs::Stores::place_of, crate::specs::Stores::kind_of, crate::specs::House::weight_of))]
     pub fn is_fair(self) -> bool
         ensures { result ≡ nat_lt 0 (weight_of (place_of self)) }
     {
-        match self {
-            Slot::Free => false,
-            Slot::Task(promise) => promise.is_fair(),
-            Slot::Kept(_) => false,
-        }
+        matches!(self, Slot::Task(Promise::Fair(_)))
     }
 
     // The reservation of the task that is here.
+    #[tactic(auto, unfolding(crate::specs::Stores::place_of, crate::specs::House::is_reserved))]
     pub fn reservation(self) -> Option<Reservation>
         ensures { MatchOption result (is_reserved (place_of self) ≡ false) (λ x. place_of self ≡ reserved_place x.quota x.period) }
     {
         match self {
-            Slot::Free => None,
             Slot::Task(promise) => promise.reservation(),
-            Slot::Kept(_) => None,
+            Slot::Free | Slot::Kept(_) => None,
         }
     }
 
     // The share that counts in admission: that of the task here, or the one kept.
+    #[tactic(auto, unfolding(crate::specs::Stores::place_of, crate::specs::House::share_of))]
     pub fn share(self) -> u32
         ensures value { result ≡ share_of (place_of self) }
         ensures bound { result ≤ 10080 }
@@ -98,13 +90,7 @@ impl Tasks {
     pub fn find(&self, number: u32) -> Option<TaskId>
         ensures { MatchOption result ((nat_lt number 64 && is_task (place_at self.now.slots number)) ≡ false) (λ t. (t.index ≡ number) × (is_task (place_at self.now.slots t.index) ≡ true)) }
     {
-        let Some(i) = TaskId::new(number) else {
-            return None;
-        };
-        if !self.slot(i).is_task() {
-            return None;
-        }
-        Some(i)
+        TaskId::new(number).filter(|&i| self.slot(i).is_task())
     }
 
     // The lowest free place.
@@ -156,13 +142,8 @@ impl Tasks {
         ensures slots { (f : ℕ → Place) → Reads place_of slot.Free self.old.slots f → Reads place_of slot.Free self.new.slots (put i.index (freed Shut (f i.index)) f) }
         ensures awake { self.new.awake ≡ self.old.awake }
     {
-        let slot = self.slots[i.index()];
-        match slot {
-            Slot::Free => {}
-            Slot::Task(_) => {}
-            Slot::Kept(_) => {
-                self.slots[i.index()] = Slot::Free;
-            }
+        if let Slot::Kept(_) = self.slot(i) {
+            self.slots[i.index()] = Slot::Free;
         }
     }
 

@@ -19,13 +19,14 @@ pub enum Occupant {
     Kept(u32, u32),
 }
 
-impl Occupant {
-    pub(crate) fn of(slot: Slot) -> Occupant
-        ensures { occupies result ≡ place_of slot }
-    {
+impl From<Slot> for Occupant {
+    ghost from_gives = { λ s o. occupies o ≡ place_of s };
+
+    #[tactic(auto, unfolding(crate::specs::Stores::place_of, crate::specs::View::occupies))]
+    fn from(slot: Slot) -> Occupant {
         match slot {
             Slot::Free => Occupant::Nobody,
-            Slot::Task(promise) => Occupant::Task(promise.kind()),
+            Slot::Task(promise) => Occupant::Task(promise.into()),
             Slot::Kept(reservation) => Occupant::Kept(reservation.quota(), reservation.period()),
         }
     }
@@ -48,7 +49,7 @@ impl Scheduler {
         ensures { (h : House) → Holds self.now h → Sees h i.index result }
     {
         View {
-            occupant: Occupant::of(self.tasks.slot(i)),
+            occupant: self.tasks.slot(i).into(),
             awake: self.tasks.is_awake(i),
             waits: self.locks.awaited(i),
             wants: asks(&self.tasks, &self.locks, i.number()),

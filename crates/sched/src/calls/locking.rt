@@ -1,12 +1,12 @@
 // lock and unlock.
 ghost use Rattle.std.specs.Prelude.{◌≡◌, true};
+ghost use Rattle.sched.specs.Called.{Called, done};
 ghost use Rattle.sched.specs.Held.{can_take, Ready};
-ghost use Rattle.sched.specs.House.{House, calls};
-ghost use Rattle.sched.specs.Refusals.{is_no};
+ghost use Rattle.sched.specs.House.{House};
 ghost use Rattle.sched.specs.Stores.{Holds};
 
 use crate::refusal::Refusal;
-use crate::{Answer, Call, Scheduler};
+use crate::{Call, Scheduler};
 use quantities::ids::{LockId, TaskId};
 
 impl Scheduler {
@@ -15,60 +15,43 @@ impl Scheduler {
         ensures value { (h : House) → Holds self.now h → result ≡ can_take h i.index m.index }
         ensures ready { result ≡ true → Ready self.now i.index m.index }
     {
-        if !self.tasks.slot(i).is_task() {
-            return false;
-        }
-        if self.locks.is_waiting(i) {
-            return false;
-        }
-        if !self.tasks.is_awake(i) {
-            return false;
-        }
-        self.locks.owner(m).is_none()
+        self.tasks.slot(i).is_task()
+            && !self.locks.is_waiting(i)
+            && self.tasks.is_awake(i)
+            && self.locks.owner(m).is_none()
     }
 
-    pub(crate) fn lock(&mut self, number: u32, lock: u32) -> Answer
-        ensures answered { (h : House) → Holds self.old h → (result ≡ (calls (Call.Lock number lock) h).answer) × Holds self.new (calls (Call.Lock number lock) h).house }
-        ensures refused { is_no result ≡ true → self.new ≡ self.old }
+    pub(crate) fn lock(&mut self, number: u32, lock: u32) -> Result<(), Refusal>
+        ensures { Called done self.old self.new (Call.Lock number lock) result }
     {
-        let Some(i) = self.tasks.find(number) else {
-            return Refusal::NoTask.answer();
-        };
-        let Some(m) = LockId::new(lock) else {
-            return Refusal::BadNumber.answer();
-        };
-        if self.locks.is_waiting(i) || !self.tasks.is_awake(i) {
-            return Refusal::Waits.answer();
+        let i = self.task(number)?;
+        let m = LockId::new(lock).ok_or(Refusal::BadNumber)?;
+        self.not_waiting(i)?;
+        if !self.tasks.is_awake(i) {
+            return Err(Refusal::Waits);
         }
         let Some(owner) = self.locks.owner(m) else {
             self.locks.take(m, i);
-            return Answer::Done;
+            return Ok(());
         };
         // The runner and not the owner: a ring of three closes through somebody between.
         if self.locks.runner(owner).index() == i.index() {
-            return Refusal::Ring.answer();
+            return Err(Refusal::Ring);
         }
         self.locks.wait(m, i);
-        Answer::Done
+        Ok(())
     }
 
-    pub(crate) fn unlock(&mut self, number: u32, lock: u32) -> Answer
-        ensures answered { (h : House) → Holds self.old h → (result ≡ (calls (Call.Unlock number lock) h).answer) × Holds self.new (calls (Call.Unlock number lock) h).house }
-        ensures refused { is_no result ≡ true → self.new ≡ self.old }
+    pub(crate) fn unlock(&mut self, number: u32, lock: u32) -> Result<(), Refusal>
+        ensures { Called done self.old self.new (Call.Unlock number lock) result }
     {
-        let Some(i) = self.tasks.find(number) else {
-            return Refusal::NoTask.answer();
-        };
-        let Some(m) = LockId::new(lock) else {
-            return Refusal::BadNumber.answer();
-        };
-        if self.locks.is_waiting(i) {
-            return Refusal::Waits.answer();
-        }
+        let i = self.task(number)?;
+        let m = LockId::new(lock).ok_or(Refusal::BadNumber)?;
+        self.not_waiting(i)?;
         if !self.locks.is_owner(m, i) {
-            return Refusal::NotOwner.answer();
+            return Err(Refusal::NotOwner);
         }
         self.locks.pass_on(m);
-        Answer::Done
+        Ok(())
     }
 }

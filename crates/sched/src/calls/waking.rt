@@ -1,36 +1,25 @@
 // wake and sleep.
-ghost use Rattle.std.specs.Prelude.{◌≡◌, true};
-ghost use Rattle.sched.specs.House.{House, calls};
-ghost use Rattle.sched.specs.Refusals.{is_no};
-ghost use Rattle.sched.specs.Stores.{Holds};
+ghost use Rattle.sched.specs.Called.{Called, done};
 
 use crate::refusal::Refusal;
-use crate::{Answer, Call, Scheduler};
+use crate::{Call, Scheduler};
 
 impl Scheduler {
-    pub(crate) fn wake(&mut self, number: u32) -> Answer
-        ensures answered { (h : House) → Holds self.old h → (result ≡ (calls (Call.Wake number) h).answer) × Holds self.new (calls (Call.Wake number) h).house }
-        ensures refused { is_no result ≡ true → self.new ≡ self.old }
+    pub(crate) fn wake(&mut self, number: u32) -> Result<(), Refusal>
+        ensures { Called done self.old self.new (Call.Wake number) result }
     {
-        let Some(i) = self.tasks.find(number) else {
-            return Refusal::NoTask.answer();
-        };
+        let i = self.task(number)?;
         self.tasks.set_awake(i, true);
-        Answer::Done
+        Ok(())
     }
 
     // A task that waits can't be put to sleep: whether it wants a tick is up to its runner.
-    pub(crate) fn sleep(&mut self, number: u32) -> Answer
-        ensures answered { (h : House) → Holds self.old h → (result ≡ (calls (Call.Sleep number) h).answer) × Holds self.new (calls (Call.Sleep number) h).house }
-        ensures refused { is_no result ≡ true → self.new ≡ self.old }
+    pub(crate) fn sleep(&mut self, number: u32) -> Result<(), Refusal>
+        ensures { Called done self.old self.new (Call.Sleep number) result }
     {
-        let Some(i) = self.tasks.find(number) else {
-            return Refusal::NoTask.answer();
-        };
-        if self.locks.is_waiting(i) {
-            return Refusal::Waits.answer();
-        }
+        let i = self.task(number)?;
+        self.not_waiting(i)?;
         self.tasks.set_awake(i, false);
-        Answer::Done
+        Ok(())
     }
 }

@@ -1,19 +1,21 @@
-use Rattle.std.proofs.Common.{◌≡◌, suc, sym, ap, ◌∙◌, arith}
-use Rattle.sched.specs.House.{runner, number_of}
-use Rattle.sched.specs.Stores.{owner_of}
+use Rattle.std.proofs.Common.{◌≡◌, ℕ, suc, Some, None, Option, MatchOption, ap, arith, rules}
+use Rattle.quantities.specs.Ids.{TaskId}
+use Rattle.sched.specs.House.{House, runner, number_of}
+use Rattle.sched.specs.Stores.{Locked, owner_of}
 use Rattle.sched.proofs.Scheduler.named.Goals as goal
 
-pub returns-in-Some : goal.returns-in-Some
+same_number : (o : Option TaskId) (r : Option ℕ) → MatchOption o (r ≡ None) (λ x. r ≡ Some x.index) → number_of r ≡ owner_of o
 unfolding number_of owner_of
-returns-in-Some c =
-    let owner : owner_of c.args.whose ≡ suc c.in-Some.i.index = ap owner_of c.in-Some.is in
-    record {
-      number = ap suc c.number.ensures.value ∙ sym owner;
-      runs = λ h i locked e. let same : c.in-Some.i.index ≡ i = omega arith in c.number-in-Some.ensures.value ∙ c.runner.ensures h locked ∙ ap (runner 64 h) same;
-    }
+same_number None r e = ap number_of e
+same_number (Some i) r e = ap number_of e
 
-pub returns-in-None : goal.returns-in-None
-unfolding number_of owner_of
-returns-in-None c =
-    let owner : owner_of c.args.whose ≡ 0 = ap owner_of c.in-None.is in
-    record { number = sym owner; runs = λ h i locked e. absurd (omega arith) }
+pub returns-clause-number : goal.returns-clause-number
+returns-clause-number c = same_number c.args.whose c.map.result (search rules)
+
+runs : (P : House → Type 0) (o : Option TaskId) (n : ℕ) → MatchOption o (Unit {0}) (λ x. (h : House) → P h → n ≡ runner 64 h x.index) → (h : House) (i : ℕ) → P h → owner_of o ≡ suc i → n ≡ runner 64 h i
+unfolding owner_of
+runs P None n told h i l e = absurd (omega arith)
+runs P (Some x) n told h i l e = let same : x.index ≡ i = omega arith in rw (← same) (told h l)
+
+pub returns-clause-runs : goal.returns-clause-runs
+returns-clause-runs c = runs (Locked c.args.self.now.locks) c.args.whose c.map_or-runs.result (search rules)

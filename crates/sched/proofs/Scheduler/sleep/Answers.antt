@@ -1,44 +1,27 @@
 -- No such task, one that waits, or it is asleep from now on.
-use Rattle.std.proofs.Common.{false, sym, refl, ◌∙◌, subst}
-use Rattle.std.proofs.lemmas.Bool.{false≢true}
-use Rattle.sched.specs.declared.Call.TheVariants.{Sleep}
-use Rattle.sched.specs.declared.Answer.TheVariants.{Done}
-use Rattle.sched.proofs.Told.{Told, turned-away, granted, holds-locked, is-task, is-no-task}
-use Rattle.sched.proofs.Changes.{with_tasks, stores-awake}
+use Rattle.std.proofs.Common.{false}
+use Rattle.sched.specs.declared.refusal.Refusal.TheVariants.{NoTask, Waits}
+use Rattle.sched.proofs.Told.{turned-away, went-through}
+use Rattle.sched.proofs.Changes.{stores-awake}
 use Rattle.sched.proofs.model.CallWays.{asleep}
 use Rattle.sched.proofs.model.Outcomes.{sleep-none, sleep-waits, sleep-done}
 use Rattle.sched.proofs.Scheduler.sleep.Goals as goal
 
-pub returns-in_default : goal.returns-in_default
-returns-in_default c =
-    let s = c.args.self.now in
-    let n = c.args.number in
-    record {
-      answered = turned-away s (Sleep n) c.answer.result 4 c.answer.ensures (λ h k. sleep-none h n (is-no-task s h k n c.in_default.ensures));
-      refused = λ _. refl;
-    }
+pub returns-in_err-i : goal.returns-in_err-i
+returns-in_err-i c =
+    let none = c.in_err-i.ensures in
+    turned-away NoTask c.from_residual.ensures.1 none.0 (λ h k. sleep-none h c.args.number (none.1 h k))
 
-pub returns-then-is_waiting : goal.returns-then-is_waiting
-returns-then-is_waiting c =
-    let s = c.args.self.now in
-    let i = c.in-Some.i in
-    let found = c.in-Some.ensures in
-    let a = c.answer-then-is_waiting in
-    record {
-      answered = subst (λ n. Told s s (Sleep n) a.result) found.0 (turned-away s (Sleep i.index) a.result 9 a.ensures (λ h k.
-          sleep-waits h i.index (is-task s h k i.index i.within found.1) (sym (c.is_waiting.ensures h (holds-locked s h k)) ∙ c.if-is_waiting.true)));
-      refused = λ _. refl;
-    }
+pub returns-in_err-not_waiting : goal.returns-in_err-not_waiting
+returns-in_err-not_waiting c =
+    let i = c.in_ok-i.i in
+    let found = c.in_ok-i.ensures in
+    let waits = c.in_err-not_waiting.ensures in
+    rw (← found.0) (turned-away Waits c.from_residual-in_err-not_waiting.ensures.1 waits.0 (λ h k. sleep-waits h i.index (found.1 h k) (waits.1 h k)))
 
 pub returns : goal.returns
 returns c =
-    let s = c.args.self.now in
-    let i = c.in-Some.i in
-    let found = c.in-Some.ensures in
+    let i = c.in_ok-i.i in
+    let found = c.in_ok-i.ensures in
     let t = c.set_awake.new.self in
-    record {
-      answered = subst (λ n. Told s (with_tasks t s) (Sleep n) Done) found.0 (granted s (with_tasks t s) (Sleep i.index) Done (asleep i.index)
-          (λ h k. sleep-done h i.index (is-task s h k i.index i.within found.1) (sym (c.is_waiting.ensures h (holds-locked s h k)) ∙ c.if-is_waiting.false))
-          (λ h k. stores-awake s h k.stores t i.index false i.within c.set_awake.ensures.slots c.set_awake.ensures.awake));
-      refused = λ e. absurd (false≢true e);
-    }
+    rw (← found.0) (went-through _ (asleep i.index) (λ h k. sleep-done h i.index (found.1 h k) (c.in_ok-not_waiting.ensures h k)) (λ h k. stores-awake _ h k.stores t i.index false i.within c.set_awake.ensures.slots c.set_awake.ensures.awake))

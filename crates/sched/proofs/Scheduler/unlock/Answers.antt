@@ -1,75 +1,51 @@
 -- Each test of the code is the one of the rules, in their order; then the lock goes to the first in its row.
-use Rattle.std.proofs.Common.{sym, refl, ◌∙◌}
-use Rattle.std.proofs.lemmas.Bool.{false≢true, le-leb, lt-leb}
-use Rattle.sched.specs.declared.Call.TheVariants.{Unlock}
-use Rattle.sched.specs.declared.Answer.TheVariants.{Done}
-use Rattle.sched.proofs.Told.{Told, at_both, turned-away, granted, holds-locked, is-task, is-no-task}
-use Rattle.sched.proofs.Changes.{with_locks, stores-gives}
+use Rattle.std.proofs.Common.{sym, ◌∙◌}
+use Rattle.std.proofs.lemmas.Bool.{le-leb, lt-leb}
+use Rattle.sched.specs.declared.refusal.Refusal.TheVariants.{NoTask, BadNumber, Waits, NotOwner}
+use Rattle.sched.proofs.Told.{turned-away, refused-for, went-through, holds-locked, ok_or-err}
+use Rattle.sched.proofs.Changes.{stores-gives}
 use Rattle.sched.proofs.model.Outcomes.{gives, unlock-none, unlock-bad, unlock-waits, unlock-other, unlock-done}
 use Rattle.sched.proofs.Scheduler.unlock.Goals as goal
 
-pub returns-in_default : goal.returns-in_default
-returns-in_default c =
-    let s = c.args.self.now in
-    let n = c.args.number in
-    let m = c.args.lock in
-    record {
-      answered = turned-away s (Unlock n m) c.answer.result 4 c.answer.ensures (λ h k. unlock-none h n m (is-no-task s h k n c.in_default.ensures));
-      refused = λ _. refl;
-    }
+pub returns-in_err-i : goal.returns-in_err-i
+returns-in_err-i c =
+    let none = c.in_err-i.ensures in
+    turned-away NoTask c.from_residual.ensures.1 none.0 (λ h k. unlock-none h c.args.number c.args.lock (none.1 h k))
 
-pub returns-in_default-new : goal.returns-in_default-new
-returns-in_default-new c =
-    let s = c.args.self.now in
-    let i = c.in-Some.i in
-    let found = c.in-Some.ensures in
-    let m = c.args.lock in
-    let a = c.answer-in_default-new in
-    record {
-      answered = at_both (λ x y. Told s s (Unlock x y) a.result) found.0 refl (turned-away s (Unlock i.index m) a.result 1 a.ensures (λ h k.
-          unlock-bad h i.index m (is-task s h k i.index i.within found.1) (le-leb 64 m c.in_default-new.ensures)));
-      refused = λ _. refl;
-    }
+pub returns-in_err-m : goal.returns-in_err-m
+returns-in_err-m c =
+    let i = c.in_ok-i.i in
+    let found = c.in_ok-i.ensures in
+    let none = ok_or-err _ c.in_err-m.ensures.value in
+    let bad = rw none.0 at c.new.ensures in
+    rw (← found.0) (turned-away BadNumber c.from_residual-in_err-m.ensures.1 none.1 (λ h k. unlock-bad h i.index c.args.lock (found.1 h k) (le-leb 64 c.args.lock bad)))
 
-pub returns-then-is_waiting : goal.returns-then-is_waiting
-returns-then-is_waiting c =
-    let s = c.args.self.now in
-    let i = c.in-Some.i in
-    let m = c.in-Some-new.m in
-    let found = c.in-Some.ensures in
-    let a = c.answer-then-is_waiting in
-    record {
-      answered = at_both (λ x y. Told s s (Unlock x y) a.result) found.0 c.in-Some-new.ensures.0 (turned-away s (Unlock i.index m.index) a.result 9 a.ensures (λ h k.
-          unlock-waits h i.index m.index (is-task s h k i.index i.within found.1) (lt-leb 64 m.index m.within) (sym (c.is_waiting.ensures h (holds-locked s h k)) ∙ c.if-is_waiting.true)));
-      refused = λ _. refl;
-    }
+pub returns-in_err-not_waiting : goal.returns-in_err-not_waiting
+returns-in_err-not_waiting c =
+    let i = c.in_ok-i.i in
+    let m = c.in_ok-m.m in
+    let found = c.in_ok-i.ensures in
+    let lock = rw c.in_ok-m.ensures.ok_part at c.new.ensures in
+    let waits = c.in_err-not_waiting.ensures in
+    rw (← found.0, ← lock.0) (turned-away Waits c.from_residual-in_err-not_waiting.ensures.1 waits.0 (λ h k. unlock-waits h i.index m.index (found.1 h k) (lt-leb 64 m.index m.within) (waits.1 h k)))
 
 pub returns-then-not-is_owner : goal.returns-then-not-is_owner
 returns-then-not-is_owner c =
     let s = c.args.self.now in
-    let i = c.in-Some.i in
-    let m = c.in-Some-new.m in
-    let found = c.in-Some.ensures in
-    let a = c.answer-then-not-is_owner in
-    record {
-      answered = at_both (λ x y. Told s s (Unlock x y) a.result) found.0 c.in-Some-new.ensures.0 (turned-away s (Unlock i.index m.index) a.result 8 a.ensures (λ h k.
-          let l = holds-locked s h k in
-          unlock-other h i.index m.index (is-task s h k i.index i.within found.1) (lt-leb 64 m.index m.within) (sym (c.is_waiting.ensures h l) ∙ c.if-is_waiting.false) (sym (c.is_owner.ensures h l) ∙ c.if-not-is_owner.true)));
-      refused = λ _. refl;
-    }
+    let i = c.in_ok-i.i in
+    let m = c.in_ok-m.m in
+    let found = c.in_ok-i.ensures in
+    let lock = rw c.in_ok-m.ensures.ok_part at c.new.ensures in
+    rw (← found.0, ← lock.0) (refused-for NotOwner (λ h k.
+    unlock-other h i.index m.index (found.1 h k) (lt-leb 64 m.index m.within) (c.in_ok-not_waiting.ensures h k) (sym (c.is_owner.ensures h (holds-locked s h k)) ∙ c.if-not-is_owner.true)))
 
 pub returns : goal.returns
 returns c =
     let s = c.args.self.now in
-    let i = c.in-Some.i in
-    let m = c.in-Some-new.m in
-    let found = c.in-Some.ensures in
-    let t = c.pass_on.new.self in
-    record {
-      answered = at_both (λ x y. Told s (with_locks t s) (Unlock x y) Done) found.0 c.in-Some-new.ensures.0 (granted s (with_locks t s) (Unlock i.index m.index) Done (gives m.index)
-          (λ h k.
-          let l = holds-locked s h k in
-          unlock-done h i.index m.index (is-task s h k i.index i.within found.1) (lt-leb 64 m.index m.within) (sym (c.is_waiting.ensures h l) ∙ c.if-is_waiting.false) (sym (c.is_owner.ensures h l) ∙ c.if-not-is_owner.false))
-          (λ h k. stores-gives s h k.stores t m.index c.pass_on.ensures.owners c.pass_on.ensures.rows));
-      refused = λ e. absurd (false≢true e);
-    }
+    let i = c.in_ok-i.i in
+    let m = c.in_ok-m.m in
+    let found = c.in_ok-i.ensures in
+    let lock = rw c.in_ok-m.ensures.ok_part at c.new.ensures in
+    rw (← found.0, ← lock.0) (went-through _ (gives m.index)
+    (λ h k. unlock-done h i.index m.index (found.1 h k) (lt-leb 64 m.index m.within) (c.in_ok-not_waiting.ensures h k) (sym (c.is_owner.ensures h (holds-locked s h k)) ∙ c.if-not-is_owner.false))
+    (λ h k. stores-gives s h k.stores c.pass_on.new.self m.index c.pass_on.ensures.owners c.pass_on.ensures.rows))
