@@ -1,22 +1,36 @@
 -- What the guards' drops tell, put together: who owns a lock at the end.
-use mathlib.Core.Path.{◌≡◌, refl, sym, ap, ◌∙◌}
-use mathlib.Core.List.{[], ◌∷◌, ◌++◌}
-use Prim.Native.Nat.{ℕ, suc}
-use native.Mathlib.Omega.{arith}
+use Rattle.std.proofs.Common.{◌≡◌, ℕ, suc, List, [], ◌∷◌, ◌++◌, Option, sym, refl, ap, ◌∙◌, subst, inl, inr, arith}
 use Rattle.quantities.specs.Ids.{TaskId}
 use Rattle.sched.specs.declared.Scheduler.{Scheduler}
 use Rattle.sched.specs.declared.Answer.{Answer}
 use Rattle.sched.specs.declared.Answer.TheVariants.{Done}
-use Rattle.sched.specs.declared.Call.TheVariants.{Lock, Unlock}
-use Rattle.sched.specs.House.{House, first_of, calls}
+use Rattle.sched.specs.declared.Call.TheVariants.{Lock}
+use Rattle.sched.specs.House.{House, first_of, calls, after}
 use Rattle.sched.specs.Stores.{Holds}
-use Rattle.sched.specs.Held.{Took, Gave, Let}
+use Rattle.sched.specs.Held.{HeldAll, Took, Gave, Let, Ticked}
+use Rattle.sched.proofs.Told.{at_both}
 use Rattle.sched.proofs.model.Rings.{unowned-row-empty}
 use Rattle.sched.proofs.model.Held.{asks-queues}
-use Rattle.guards.specs.Sections.{Both, HandedOn}
+use Rattle.guards.specs.Sections.{Both, HandedOn, OverTick, taken, outer}
 
+-- WHAT A GUARD SAYS, at the numbers that code has for its task and locks
 pub index : {a b : TaskId} → a ≡ b → a.index ≡ b.index
 index = ap (λ (x : TaskId). x.index)
+
+pub took-at : {s x a : Scheduler} {i j m n : ℕ} → s ≡ x → i ≡ j → m ≡ n → Took s a i m → Took x a j n
+took-at {a = a} {j = j} {n = n} e f g p = subst (λ (y : Scheduler). Took y a j n) e (at_both (Took _ a) f g p)
+
+pub gave_at : {s t : Scheduler} {i j : ℕ} {ms ns : List ℕ} → i ≡ j → ms ≡ ns → Gave s t i ms → Gave s t j ns
+gave_at {s} {t} {j = j} {ms = ms} e f p = subst (Gave s t j) f (subst (λ n. Gave s t n ms) e p)
+
+pub on-top : {ms ns ls : List ℕ} {m n : ℕ} → ls ≡ m ∷ ms → m ≡ n → ms ≡ ns → ls ≡ n ∷ ns
+on-top {ms} {n = n} e f g = e ∙ (ap (λ l. l ∷ ms) f ∙ ap (λ l. n ∷ l) g)
+
+pub head-is : {ms ns : List ℕ} {m n : ℕ} → m ∷ ms ≡ n ∷ ns → m ≡ n
+head-is e = cc
+
+pub tail-is : {ms ns : List ℕ} {m n : ℕ} → m ∷ ms ≡ n ∷ ns → ms ≡ ns
+tail-is e = cc
 
 none_first : first_of [] ≡ 0
 unfolding first_of
@@ -29,33 +43,62 @@ one-first j = refl
 apart : ◌≡◌ {A = ℕ} 5 6 → ⊥
 apart e = omega (arith, e)
 
--- nobody stood in the rows, so both are free again
-pub both-free : (s a b d t : Scheduler) (i : ℕ) → Took s a i 5 → Took a b i 6 → Gave b d i 6 → Gave d t i 5 → (h : House) → Holds s h → Both h i t
-both-free s a b d t i take five' give six' h k =
-    let g₁ = (calls (Lock i 5) h).house in
-    let g₂ = (calls (Lock i 6) g₁).house in
-    let g₃ = (calls (Unlock i 6) g₂).house in
-    let first = take h k in
-    let second = five' g₁ first.0 in
-    let third = give g₂ second.0 second.1.held in
-    let last = six' g₃ third.0 (third.1.rest 5 apart (second.1.keeps 5 first.1.held)) in
-    let row5 : g₃.row 5 ≡ [] =
-    third.1.rows 5 apart ∙ (ap (λ r. r 5) second.1.rows ∙ (ap (λ r. r 5) first.1.rows ∙ unowned-row-empty h k.comes 5 first.1.free)) in
-    let row6 : g₂.row 6 ≡ [] = ap (λ r. r 6) second.1.rows ∙ unowned-row-empty g₁ first.0.comes 6 second.1.free in
-    record {
-      holds = last.0;
-      five = last.1.next ∙ (ap first_of row5 ∙ none_first);
-      six = last.1.others 6 (λ e. apart (sym e)) ∙ (third.1.next ∙ (ap first_of row6 ∙ none_first));
-    }
+-- i has 5 and 6, and nobody stands in their rows
+record Nested (i : ℕ) (g : House) : Type 0 where
+  all : HeldAll g i (6 ∷ 5 ∷ [])
+  five : g.row 5 ≡ []
+  six : g.row 6 ≡ []
+
+module _ (s a b : Scheduler) (i : ℕ) (take : Took s a i 5) (further : Took a b i 6) (h : House) (k : Holds s h) where
+  inside : Holds b (taken h i)
+  inside = (further (calls (Lock i 5) h).house (take h k).0).0
+
+  nested : Nested i (taken h i)
+  nested =
+      let first = take h k in
+      let second = further (calls (Lock i 5) h).house first.0 in
+      record {
+        all = second.1.held (5 ∷ []) (first.1.held [] tt);
+        five = ap (λ r. r 5) second.1.rows ∙ (ap (λ r. r 5) first.1.rows ∙ unowned-row-empty h k.comes 5 first.1.free);
+        six = ap (λ r. r 6) second.1.rows ∙ unowned-row-empty (calls (Lock i 5) h).house first.0.comes 6 second.1.free;
+      }
+
+  -- one drop gives both back
+  pub both-free : (t : Scheduler) → Gave b t i (6 ∷ 5 ∷ []) → Both h i t
+  both-free t give =
+      let last = give (taken h i) inside nested.all in
+      record {
+        holds = last.0;
+        five = last.1.next 5 (inr (inl refl)) ∙ (ap first_of nested.five ∙ none_first);
+        six = last.1.next 6 (inl refl) ∙ (ap first_of nested.six ∙ none_first);
+      }
+
+  -- 6 is given back, and over the tick 5 is still held
+  pub over-tick : (d e t : Scheduler) (whose : Option ℕ) (runs : ℕ) → Gave b d i (6 ∷ []) → Ticked d e i whose runs → Gave e t i (5 ∷ []) → OverTick h i whose runs t
+  over-tick d e t whose runs give tick drop =
+      let third = give (taken h i) inside (nested.all.0, λ x. x, tt) in
+      let still = third.1.rest (5 ∷ []) nested.all in
+      let fourth = tick (outer h i) third.0 in
+      let last = drop (after (outer h i) whose) fourth.1 (fourth.2 (5 ∷ []) still) in
+      let free = third.1.next 6 (inl refl) ∙ (ap first_of nested.six ∙ none_first) in
+      record {
+        may = fourth.0;
+        inner = free;
+        held = still.0.owns;
+        holds = last.0;
+        five = last.1.next 5 (inl refl) ∙ (ap first_of (third.1.rows 5 (λ x. elim x [ inl n ↦ apart n | inr n ↦ n ]) ∙ nested.five) ∙ none_first);
+        six = last.1.others 6 (λ x. elim x [ inl n ↦ apart (sym n) | inr n ↦ n ]) ∙ free;
+      }
 
 -- j alone stands in the row, so the lock is j's
-pub goes_to : (s a b t : Scheduler) (i j : ℕ) (r : Answer) → Took s a i 5 → Let a b i (Lock j 5) r → r ≡ Done → Gave b t i 5 → (h : House) → Holds s h → HandedOn h i j t
+pub goes_to : (s a b t : Scheduler) (i j : ℕ) (r : Answer) → Took s a i 5 → Let a b i (Lock j 5) r → r ≡ Done → Gave b t i (5 ∷ []) → (h : House) → Holds s h → HandedOn h i j t
 goes_to s a b t i j r take ask done give h k =
     let g₁ = (calls (Lock i 5) h).house in
     let g₂ = (calls (Lock j 5) g₁).house in
     let first = take h k in
+    let all = first.1.held [] tt in
     let asked = ask g₁ first.0 in
-    let last = give g₂ asked.1 (asked.2 5 first.1.held) in
+    let last = give g₂ asked.1 (asked.2 (5 ∷ []) all) in
     let row : g₂.row 5 ≡ [] ++ (j ∷ []) =
-    asks-queues g₁ j 5 (sym asked.0 ∙ done) (λ e. omega (arith, e, first.1.held.owns)) ∙ ap (λ l. l ++ (j ∷ [])) (ap (λ r. r 5) first.1.rows ∙ unowned-row-empty h k.comes 5 first.1.free) in
-    record { holds = last.0; five = last.1.next ∙ (ap first_of row ∙ one-first j) }
+    asks-queues g₁ j 5 (sym asked.0 ∙ done) (λ e. omega (arith, e, all.0.owns)) ∙ ap (λ l. l ++ (j ∷ [])) (ap (λ r. r 5) first.1.rows ∙ unowned-row-empty h k.comes 5 first.1.free) in
+    record { holds = last.0; five = last.1.next 5 (inl refl) ∙ (ap first_of row ∙ one-first j) }

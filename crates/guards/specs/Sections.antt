@@ -1,9 +1,9 @@
 -- What becomes of locks that code holds by guards.
 -- Assumes nothing.
-use Rattle.std.specs.Prelude.{◌≡◌, ℕ, suc}
+use Rattle.std.specs.Prelude.{◌≡◌, ℕ, suc, T, Option}
 use Rattle.sched.specs.declared.Scheduler.{Scheduler}
 use Rattle.sched.specs.declared.Call.TheVariants.{Lock, Unlock}
-use Rattle.sched.specs.House.{House, calls}
+use Rattle.sched.specs.House.{House, calls, may_run, after}
 use Rattle.sched.specs.Stores.{Holds}
 
 -- i has taken 5, then 6
@@ -28,3 +28,20 @@ handed h i j = (calls (Unlock i 5) (calls (Lock j 5) (calls (Lock i 5) h).house)
 pub record HandedOn (h : House) (i j : ℕ) (t : Scheduler) : Type 0 where
   pub holds : Holds t (handed h i j)
   pub five : (handed h i j).owner 5 ≡ suc j
+
+-- i has taken 5, then 6, and has given back 6
+abbrev pub outer : House → ℕ → House
+outer h i = (calls (Unlock i 6) (taken h i)).house
+
+-- then a tick goes by, and i gives back 5
+abbrev pub later : House → ℕ → Option ℕ → House
+later h i whose = (calls (Unlock i 5) (after (outer h i) whose)).house
+
+-- the tick may be whose it is said to be; 6 is free and 5 is i's meanwhile; at the end both are free
+pub record OverTick (h : House) (i : ℕ) (whose : Option ℕ) (runs : ℕ) (t : Scheduler) : Type 0 where
+  pub may : T (may_run (outer h i) whose runs)
+  pub inner : (outer h i).owner 6 ≡ 0
+  pub held : (outer h i).owner 5 ≡ suc i
+  pub holds : Holds t (later h i whose)
+  pub five : (later h i whose).owner 5 ≡ 0
+  pub six : (later h i whose).owner 6 ≡ 0

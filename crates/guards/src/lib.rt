@@ -1,10 +1,10 @@
 // Code that holds locks by guards, and what it learns from their drops.
 #![tactic(auto)]
 
-ghost use Rattle.std.specs.Prelude.{◌≡◌, true};
+ghost use Rattle.std.specs.Prelude.{◌≡◌, true, IfSome};
 ghost use Rattle.sched.specs.House.{House};
 ghost use Rattle.sched.specs.Stores.{Holds};
-ghost use Rattle.guards.specs.Sections.{Both, HandedOn};
+ghost use Rattle.guards.specs.Sections.{Both, HandedOn, OverTick};
 
 use quantities::ids::{LockId, TaskId};
 use sched::guard::Guard;
@@ -16,15 +16,11 @@ pub fn both(scheduler: &mut Scheduler, i: TaskId) -> bool
 {
     let five = LockId::new(5).unwrap();
     let six = LockId::new(6).unwrap();
-    if !scheduler.can_take(i, five) {
+    let mut guard = Guard::new(scheduler, i);
+    if !guard.lock(five) {
         return false;
     }
-    let outer = Guard::take(scheduler, i, five);
-    if !outer.scheduler.can_take(i, six) {
-        return false;
-    }
-    let _inner = Guard::take(outer.scheduler, i, six);
-    true
+    guard.lock(six)
 }
 
 // j comes to wait for lock 5 while i holds it, and has it when i's guard is dropped. False if it doesn't come to that.
@@ -32,12 +28,26 @@ pub fn hands_on(scheduler: &mut Scheduler, i: TaskId, j: TaskId) -> bool
     ensures { result ≡ true → (h : House) → Holds scheduler.old h → HandedOn h i.index j.index scheduler.new }
 {
     let five = LockId::new(5).unwrap();
-    if !scheduler.can_take(i, five) {
+    let mut guard = Guard::new(scheduler, i);
+    if !guard.lock(five) {
         return false;
     }
-    let mut guard = Guard::take(scheduler, i, five);
     let Some(told) = guard.call(Call::Lock(j.number(), 5)) else {
         return false;
     };
     matches!(told, Answer::Done)
+}
+
+// The task gives back 6 and holds 5 over a tick: whose it is, and who runs in it. None if one of them isn't to be had at once.
+pub fn over_a_tick(scheduler: &mut Scheduler, i: TaskId) -> Option<(Option<u32>, u32)>
+    ensures { IfSome result (λ p. (h : House) → Holds scheduler.old h → OverTick h i.index p.0 p.1 scheduler.new) }
+{
+    let outer = LockId::new(5).unwrap();
+    let inner = LockId::new(6).unwrap();
+    let mut held = Guard::new(scheduler, i);
+    if !held.lock(outer) || !held.lock(inner) {
+        return None;
+    }
+    held.unlock()?;
+    Some(held.pick())
 }

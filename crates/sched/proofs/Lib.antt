@@ -13,6 +13,7 @@ pub mod Puts
 pub mod RankTurns
 pub mod Seeing
 pub mod Soonest
+pub mod Stacks
 pub mod Sums
 pub mod Tests
 pub mod Told

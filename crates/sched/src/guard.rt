@@ -1,45 +1,103 @@
-// A lock that is held, as a value: it is given back when the value is dropped, by the same function as the call.
-ghost use Rattle.std.specs.Prelude.{◌≡◌, true, not, is_some, MatchOption};
-ghost use Rattle.sched.specs.Held.{concerns, Ready, Took, Gave, Let};
+// Locks that are held, as a value: they are given back when the value is dropped, the last one first, by the same function as the call.
+ghost use Rattle.std.specs.Prelude.{◌≡◌, ◌<◌, true, false, not, [], ◌∷◌, is_some, MatchOption};
+ghost use Rattle.arrayvec.specs.ArrayVec.{array_vec_len};
+ghost use Rattle.sched.specs.House.{House};
+ghost use Rattle.sched.specs.Held.{can_take, concerns, locks_of, HeldAll, Ready, Took, Unlocked, Gave, Let, Ticked};
+ghost use Rattle.sched.specs.Stores.{Holds};
 
 use crate::{Answer, Call, Scheduler};
+use arrayvec::ArrayVec;
 use quantities::ids::{LockId, TaskId};
 
-// While it lives its task can't come to wait by way of it, since it lets nothing through that concerns the task: so it can always give the lock back.
-// A further lock of the task is taken under it, where it is free, by a guard over the same scheduler, which is lent for that: hence `pub`.
+// While it lives nobody else has the scheduler, and it lets nothing through by which its task could come to wait or lose a lock: so it can always give back what it holds.
+// A further lock is one more in the same value, since a guard can't lend on what it was itself lent.
 pub struct Guard<'a> {
-    pub scheduler: &'a mut Scheduler,
+    scheduler: &'a mut Scheduler,
     task: TaskId,
-    lock: LockId,
+    // nobody holds a lock twice, so there is room for all that one task can hold
+    locks: ArrayVec<u32, 64>,
 }
 
 impl<'a> Guard<'a> {
-    // The lock is the task's. It has to be free: of an Option of a guard nobody would know, after the drop, whether there was one.
-    pub fn take(scheduler: &'a mut Scheduler, i: TaskId, m: LockId) -> Guard<'a>
-        requires { Ready scheduler.old i.index m.index }
+    // It holds nothing yet.
+    pub fn new(scheduler: &'a mut Scheduler, i: TaskId) -> Guard<'a>
         ensures lent { result.scheduler.ghost_name ≡ scheduler.entry.ghost_name }
-        ensures ids { (result.task ≡ i) × (result.lock ≡ m) }
-        ensures taken { Took scheduler.old result.scheduler.now i.index m.index }
+        ensures same { result.scheduler.now ≡ scheduler.old }
+        ensures ids { (result.task ≡ i) × (locks_of result.locks ≡ []) }
     {
-        let _done = scheduler.lock(i.number(), m.index() as u32);
         Guard {
             scheduler,
             task: i,
-            lock: m,
+            locks: ArrayVec::new(),
         }
+    }
+
+    // The lock is the task's. It has to be to be had at once.
+    pub fn take(scheduler: &'a mut Scheduler, i: TaskId, m: LockId) -> Guard<'a>
+        requires { Ready scheduler.old i.index m.index }
+        ensures lent { result.scheduler.ghost_name ≡ scheduler.entry.ghost_name }
+        ensures ids { (result.task ≡ i) × (locks_of result.locks ≡ m.index ∷ []) }
+        ensures taken { Took scheduler.old result.scheduler.now i.index m.index }
+    {
+        let mut guard = Guard::new(scheduler, i);
+        guard.hold(m);
+        guard
     }
 
     // Whether its task can take a further lock.
     pub fn can_take(&self, m: LockId) -> bool
+        ensures value { (h : House) → Holds self.now.scheduler.now h → result ≡ can_take h self.now.task.index m.index }
         ensures ready { result ≡ true → Ready self.now.scheduler.now self.now.task.index m.index }
     {
         self.scheduler.can_take(self.task, m)
     }
 
+    // The lock is the task's, or false if it isn't to be had at once: then nothing has changed.
+    pub fn lock(&mut self, m: LockId) -> bool
+        ensures lent { self.new.scheduler.ghost_name ≡ self.old.scheduler.ghost_name }
+        ensures ids { self.new.task ≡ self.old.task }
+        ensures value { (h : House) → Holds self.old.scheduler.now h → HeldAll h self.old.task.index (locks_of self.old.locks) → result ≡ can_take h self.old.task.index m.index }
+        ensures taken { result ≡ true → (locks_of self.new.locks ≡ m.index ∷ locks_of self.old.locks) × Took self.old.scheduler.now self.new.scheduler.now self.old.task.index m.index }
+        ensures refused { result ≡ false → (self.new.locks ≡ self.old.locks) × (self.new.scheduler.now ≡ self.old.scheduler.now) }
+    {
+        if self.locks.is_full() {
+            return false;
+        }
+        if !self.can_take(m) {
+            return false;
+        }
+        self.hold(m);
+        true
+    }
+
+    fn hold(&mut self, m: LockId)
+        requires ready { Ready self.old.scheduler.now self.old.task.index m.index }
+        requires room { array_vec_len self.old.locks < 64 }
+        ensures lent { self.new.scheduler.ghost_name ≡ self.old.scheduler.ghost_name }
+        ensures ids { self.new.task ≡ self.old.task }
+        ensures held { locks_of self.new.locks ≡ m.index ∷ locks_of self.old.locks }
+        ensures taken { Took self.old.scheduler.now self.new.scheduler.now self.old.task.index m.index }
+    {
+        let lock = m.index() as u32;
+        let _done = self.scheduler.lock(self.task.number(), lock);
+        self.locks.push(lock);
+    }
+
+    // The lock that it took last is given back. Its number, or None if it holds nothing.
+    pub fn unlock(&mut self) -> Option<u32>
+        ensures lent { self.new.scheduler.ghost_name ≡ self.old.scheduler.ghost_name }
+        ensures ids { self.new.task ≡ self.old.task }
+        ensures given { MatchOption result ((locks_of self.old.locks ≡ []) × (self.new.locks ≡ self.old.locks) × (self.new.scheduler.now ≡ self.old.scheduler.now)) (λ m. (locks_of self.old.locks ≡ m ∷ locks_of self.new.locks) × Gave self.old.scheduler.now self.new.scheduler.now self.old.task.index (m ∷ [])) }
+    {
+        let lock = self.locks.pop()?;
+        let _done = self.scheduler.unlock(self.task.number(), lock);
+        Some(lock)
+    }
+
     // A call of others, or None if it concerns the guard's own task.
     pub fn call(&mut self, c: Call) -> Option<Answer>
         ensures lent { self.new.scheduler.ghost_name ≡ self.old.scheduler.ghost_name }
-        ensures ids { (self.new.task ≡ self.old.task) × (self.new.lock ≡ self.old.lock) }
+        ensures ids { (self.new.task ≡ self.old.task) × (self.new.locks ≡ self.old.locks) }
         ensures lets { is_some result ≡ not (concerns self.old.task.index c) }
         ensures answered { MatchOption result (self.new.scheduler.now ≡ self.old.scheduler.now) (λ a. Let self.old.scheduler.now self.new.scheduler.now self.old.task.index c a) }
     {
@@ -48,19 +106,38 @@ impl<'a> Guard<'a> {
         }
         Some(self.scheduler.call(c))
     }
+
+    // A tick goes by: whose it is, and who runs in it.
+    pub fn pick(&mut self) -> (Option<u32>, u32)
+        ensures lent { self.new.scheduler.ghost_name ≡ self.old.scheduler.ghost_name }
+        ensures ids { (self.new.task ≡ self.old.task) × (self.new.locks ≡ self.old.locks) }
+        ensures ticked { Ticked self.old.scheduler.now self.new.scheduler.now self.old.task.index result.0 result.1 }
+    {
+        self.scheduler.pick()
+    }
 }
 
 impl Drop for Guard<'_> {
     fn drop(self)
-        ensures given { Gave self.entry.scheduler.now self.exit.0.now self.entry.task.index self.entry.lock.index }
+        ensures given { Gave self.entry.scheduler.now self.exit.0.now self.entry.task.index (locks_of self.entry.locks) }
     {
-        let i = self.task;
-        let m = self.lock;
-        let _done = self.scheduler.unlock(i.number(), m.index() as u32);
         let Guard {
-            scheduler: _,
-            task: _,
-            lock: _,
+            scheduler,
+            task,
+            locks,
         } = self;
+        scheduler.unlock_all(task, locks);
+    }
+}
+
+impl Scheduler {
+    // What a guard holds is given back, the last one first.
+    fn unlock_all(&mut self, i: TaskId, locks: ArrayVec<u32, 64>)
+        ensures { Unlocked self.old self.new i.index (locks_of locks) }
+    {
+        let mut left = locks;
+        while let Some(lock) = left.pop() {
+            let _done = self.unlock(i.number(), lock);
+        }
     }
 }

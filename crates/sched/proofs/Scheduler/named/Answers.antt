@@ -1,4 +1,4 @@
-use Rattle.std.proofs.Common.{◌≡◌, ℕ, suc, Some, None, Option, MatchOption, refl, ap, arith, rules}
+use Rattle.std.proofs.Common.{◌≡◌, ℕ, suc, Some, None, Option, MatchOption, ap, arith, rules}
 use Rattle.quantities.specs.Ids.{TaskId}
 use Rattle.sched.specs.House.{House, runner, number_of}
 use Rattle.sched.specs.Stores.{Locked, owner_of}
