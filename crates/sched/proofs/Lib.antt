@@ -7,6 +7,7 @@ pub mod Fractions
 pub mod Guarded
 pub mod Keep
 pub mod Lives
+pub mod Owners
 pub mod Passing
 pub mod Promises
 pub mod Puts

@@ -58,7 +58,7 @@ impl Fixed {
         ensures { (f : ℕ → List ℕ) (h : House) → Holds self.now.turn f → WantsOf wants.now h → owner_of result ≡ in_turn (asking h) (f rank.index) }
     {
         let mut at = self.turn.front(QueueId::from(rank));
-        for _step in 0..64 {
+        for step in 0..64u32 {
             let i = at?;
             if wants.of(i) {
                 return Some(i);

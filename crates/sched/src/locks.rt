@@ -49,7 +49,8 @@ impl Locks {
     pub fn awaited(&self, i: TaskId) -> Option<LockId>
         ensures { (h : House) → Locked self.now h → awaited_of result ≡ h.waits i.index }
     {
-        self.waiters.queue_of(i).map(LockId::from)
+        let q = self.waiters.queue_of(i)?;
+        Some(LockId::from(q))
     }
 
     // Whether it owns any lock.
@@ -72,7 +73,7 @@ impl Locks {
         ensures { (h : House) → Locked self.now h → result.index ≡ runner 64 h i.index }
     {
         let mut at = i;
-        for _step in 0..64 {
+        for step in 0..64u32 {
             let Some(owner) = self.waits_for(at) else {
                 return at;
             };

@@ -36,8 +36,8 @@ module _ {base by : ℕ} {positions : List Position} {place : ℕ → Place} {fa
   pub lowers-none : AllStand base positions place far rest → Lowers base by 0 positions place far rest
   lowers-none all = record { len = all.len; done = λ i d l li. absurd (omega arith); left = λ i d l _. all.each i d l }
 
-  pub lowers-all : Lowers base by 64 positions place far rest → AllStand (base + by) positions place far rest
-  lowers-all at = record { len = at.len; each = λ i d l. at.done i d l l }
+  pub lowers-all : {k : ℕ} → 64 ≤ k → Lowers base by k positions place far rest → AllStand (base + by) positions place far rest
+  lowers-all past at = record { len = at.len; each = λ i d l. at.done i d l (omega arith) }
 
   pub lowers-more : (k : ℕ) (d : Position) (q : Position) → k < 64 → q.weight ≡ (get_or positions k d).weight → q.whole ≡ lowered_far (get_or positions k d).whole by → q.rest ≡ lowered_rest (get_or positions k d).whole (get_or positions k d).rest by →
       Lowers base by k positions place far rest → Lowers base by (k + 1) (set positions k q) place far rest

@@ -1,5 +1,5 @@
 -- Only a fair task has a weight; it stands one part beyond the mark.
-use Rattle.std.proofs.Common.{◌≡◌, ap, subst, arith}
+use Rattle.std.proofs.Common.{◌≡◌, ap, subst, inl, inr, arith}
 use Rattle.sched.specs.House.{weight_of}
 use Rattle.sched.specs.Stores.{kind_of, task_place, StandsBeyond}
 use Rattle.sched.proofs.positions.Standing.{stands-made}
@@ -8,12 +8,7 @@ use Rattle.sched.proofs.fair.Fair.beginning.Goals as goal
 pub returns-in-Reserved : goal.returns-in-Reserved
 unfolding kind_of weight_of
 returns-in-Reserved c base w e heavy _ =
-    let none : ◌≡◌ 0 w = subst (λ p. weight_of (task_place p) ≡ w) c.in-Reserved.is e in absurd (omega arith)
-
-pub returns-in-Fixed : goal.returns-in-Fixed
-unfolding kind_of weight_of
-returns-in-Fixed c base w e heavy _ =
-    let none : ◌≡◌ 0 w = subst (λ p. weight_of (task_place p) ≡ w) c.in-Fixed.is e in absurd (omega arith)
+    let none : ◌≡◌ 0 w = elim c.in-Reserved.is [ inl r ↦ subst (λ p. weight_of (task_place p) ≡ w) r.1 e | inr r ↦ subst (λ p. weight_of (task_place p) ≡ w) r.1 e ] in absurd (omega arith)
 
 pub returns-in-Fair : goal.returns-in-Fair
 unfolding kind_of weight_of

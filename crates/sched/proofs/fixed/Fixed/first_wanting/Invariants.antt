@@ -7,6 +7,6 @@ use Rattle.sched.specs.Midtick.{WantsOf, asking}
 use Rattle.sched.proofs.Walks.{Walked}
 use Rattle.sched.proofs.fixed.Fixed.first_wanting.Given as goal
 
-abbrev pub invariant-loop-_step : goal.invariant-loop-_step
-invariant-loop-_step l =
-    (f : ℕ → List ℕ) (h : House) (q : ℕ) → queue.Holds l.self.turn f → WantsOf l.wants h → First (f q) l.initial.at → Walked (f q) (asking h) l._step l.at
+abbrev pub invariant-loop-step : goal.invariant-loop-step
+invariant-loop-step l =
+    (f : ℕ → List ℕ) (h : House) (q : ℕ) → queue.Holds l.self.turn f → WantsOf l.wants h → First (f q) l.initial.at → Walked (f q) (asking h) l.step l.at

@@ -1,5 +1,7 @@
-use Rattle.std.proofs.Common.{suc, eqb, ap, ◌∙◌}
+use Rattle.std.proofs.Common.{refl, suc, eqb, ap, ◌∙◌, rules}
+use Rattle.sched.proofs.Owners.{same-owner}
 use Rattle.sched.proofs.locks.Locks.is_owner.Goals as goal
 
 pub returns : goal.returns
-returns c h k = c.is_owned_by.ensures ∙ ap (λ n. eqb n (suc c.args.i.index)) (c.owner.ensures h k)
+returns c h k =
+    c.eq.ensures ∙ same-owner _ (λ a b. refl) c.owner.result c.args.i ∙ ap (λ n. eqb n (suc c.args.i.index)) (c.owner.ensures h k)

@@ -4,6 +4,7 @@ use Rattle.sched.specs.House.{ticked}
 use Rattle.sched.specs.Stores.{Reads, place_of, window_of, owner_of, shut}
 use Rattle.sched.proofs.Upto.{upto, upto-none, upto_all, reads-past}
 use Rattle.sched.proofs.Passing.{pass-windows, pass-places, pass-windows-past, pass-places-past}
+use Rattle.sched.proofs.Owners.{same-owner}
 use Rattle.sched.proofs.reserved.Reserved.pass.Goals as goal
 
 pub loop-i-preserved : goal.loop-i-preserved
@@ -12,7 +13,7 @@ loop-i-preserved c =
     let r = owner_of c.args.whose in
     let here = c.in-Some.ensures.steps.0 in
     let more = c.in-Some.ensures.steps.1 in
-    let mine : c.eq.result ≡ eqb r (suc c.in-Some.i.index) = ? in (
+    let mine : c.eq.result ≡ eqb r (suc c.in-Some.i.index) = c.eq.ensures ∙ same-owner _ (λ a b. refl) c.args.whose c.in-Some.i in (
       λ h windows.
           rw more (pass-windows h r n c.in-Some.i.index c.eq.result here mine c.pass_at.new.self.windows
           (c.pass_at.ensures.windows (upto n (ticked h r).window h.window) (c.loop-i.invariant.0 h windows))),
