@@ -52,7 +52,7 @@ impl Scheduler {
             occupant: self.tasks.slot(i).into(),
             awake: self.tasks.is_awake(i),
             waits: self.locks.awaited(i),
-            wants: asks(&self.tasks, &self.locks, i.number()),
+            wants: asks(&self.tasks, &self.locks, i.into()),
             window: self.reserved.window(i),
         }
     }
