@@ -14,8 +14,8 @@ use sched::{Answer, Call, Scheduler};
 pub fn both(scheduler: &mut Scheduler, i: TaskId) -> bool
     ensures { result ≡ true → (h : House) → Holds scheduler.old h → Both h i.index scheduler.new }
 {
-    let five = LockId::new(5).unwrap();
-    let six = LockId::new(6).unwrap();
+    let five = LockId::try_from(5).unwrap();
+    let six = LockId::try_from(6).unwrap();
     let mut guard = Guard::new(scheduler, i);
     if !guard.lock(five) {
         return false;
@@ -27,12 +27,12 @@ pub fn both(scheduler: &mut Scheduler, i: TaskId) -> bool
 pub fn hands_on(scheduler: &mut Scheduler, i: TaskId, j: TaskId) -> bool
     ensures { result ≡ true → (h : House) → Holds scheduler.old h → HandedOn h i.index j.index scheduler.new }
 {
-    let five = LockId::new(5).unwrap();
+    let five = LockId::try_from(5).unwrap();
     let mut guard = Guard::new(scheduler, i);
     if !guard.lock(five) {
         return false;
     }
-    let Some(told) = guard.call(Call::Lock(j.number(), 5)) else {
+    let Some(told) = guard.call(Call::Lock(j.into(), 5)) else {
         return false;
     };
     matches!(told, Answer::Done)
@@ -42,8 +42,8 @@ pub fn hands_on(scheduler: &mut Scheduler, i: TaskId, j: TaskId) -> bool
 pub fn over_a_tick(scheduler: &mut Scheduler, i: TaskId) -> Option<(Option<u32>, u32)>
     ensures { IfSome result (λ p. (h : House) → Holds scheduler.old h → OverTick h i.index p.0 p.1 scheduler.new) }
 {
-    let outer = LockId::new(5).unwrap();
-    let inner = LockId::new(6).unwrap();
+    let outer = LockId::try_from(5).unwrap();
+    let inner = LockId::try_from(6).unwrap();
     let mut held = Guard::new(scheduler, i);
     if !held.lock(outer) || !held.lock(inner) {
         return None;

@@ -70,5 +70,5 @@ rest-told [] = refl
 rest-told (x ∷ xs) = refl
 
 -- THE RING TEST, asked of who runs for the owner
-pub ring-told : (h : House) (m i o r x y : ℕ) → suc o ≡ h.owner m → r ≡ runner 64 h o → x ≡ r → y ≡ i → eqb (runner 64 h (h.owner m - 1)) i ≡ eqb x y
-ring-told h m i o r x y owns runs e f = let at : h.owner m - 1 ≡ o = omega arith in cc
+pub ring-told : (h : House) (m i o r : ℕ) → suc o ≡ h.owner m → r ≡ runner 64 h o → eqb (runner 64 h (h.owner m - 1)) i ≡ eqb r i
+ring-told h m i o r owns runs = let at : h.owner m - 1 ≡ o = omega arith in cc

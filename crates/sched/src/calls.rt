@@ -27,7 +27,7 @@ impl Call {
     pub(crate) fn concerns(self, i: TaskId) -> bool
         ensures { result ≡ concerns i.index self }
     {
-        self.task() == Some(i.number())
+        self.task() == Some(u32::from(i))
     }
 }
 

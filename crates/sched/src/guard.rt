@@ -78,8 +78,8 @@ impl<'a> Guard<'a> {
         ensures held { locks_of self.new.locks ≡ m.index ∷ locks_of self.old.locks }
         ensures taken { Took self.old.scheduler.now self.new.scheduler.now self.old.task.index m.index }
     {
-        let lock = m.index() as u32;
-        let _done = self.scheduler.lock(self.task.number(), lock);
+        let lock = u32::from(m);
+        let _done = self.scheduler.lock(self.task.into(), lock);
         self.locks.push(lock);
     }
 
@@ -90,7 +90,7 @@ impl<'a> Guard<'a> {
         ensures given { MatchOption result ((locks_of self.old.locks ≡ []) × (self.new.locks ≡ self.old.locks) × (self.new.scheduler.now ≡ self.old.scheduler.now)) (λ m. (locks_of self.old.locks ≡ m ∷ locks_of self.new.locks) × Gave self.old.scheduler.now self.new.scheduler.now self.old.task.index (m ∷ [])) }
     {
         let lock = self.locks.pop()?;
-        let _done = self.scheduler.unlock(self.task.number(), lock);
+        let _done = self.scheduler.unlock(self.task.into(), lock);
         Some(lock)
     }
 
@@ -137,7 +137,7 @@ impl Scheduler {
     {
         let mut left = locks;
         while let Some(lock) = left.pop() {
-            let _done = self.unlock(i.number(), lock);
+            let _done = self.unlock(i.into(), lock);
         }
     }
 }

@@ -137,8 +137,8 @@ impl Scheduler {
         ensures number { number_of result.0 ≡ owner_of whose }
         ensures runs { (h : House) (i : ℕ) → Locked self.now.locks h → owner_of whose ≡ suc i → result.1 ≡ runner 64 h i }
     {
-        let runs = whose.map_or(0, |i| self.locks.runner(i).number());
-        (whose.map(|i| i.number()), runs)
+        let runs = whose.map_or(0, |i| self.locks.runner(i).into());
+        (whose.map(u32::from), runs)
     }
 }
 

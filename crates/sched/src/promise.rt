@@ -1,11 +1,12 @@
 // What a task was promised, with its numbers known to be good.
-ghost use Rattle.std.specs.Prelude.{◌≡◌, ◌≤◌, true, false, MatchOption};
+ghost use Rattle.std.specs.Prelude.{◌≡◌, ◌≤◌, true, false, MatchOption, MatchResult};
 ghost use Rattle.sched.specs.House.{good, share_of_kind, is_reserved};
 ghost use Rattle.sched.specs.Stores.{kind_of, task_place, reserved_place};
 
 use crate::Kind;
 use quantities::ids::Rank;
 use quantities::promises::{Reservation, Weight};
+use quantities::range::OutOfRange;
 
 #[derive(Clone, Copy)]
 pub enum Promise {
@@ -14,33 +15,22 @@ pub enum Promise {
     Fair(Weight),
 }
 
-impl Promise {
-    // The promise of this kind, if its numbers are good.
-    pub fn of(kind: Kind) -> Option<Promise>
-        ensures { MatchOption result (good kind ≡ false) (λ p. (kind_of p ≡ kind) × (good kind ≡ true)) }
-    {
-        match kind {
-            Kind::Reserved(quota, period) => {
-                let Ok(reservation) = Reservation::new(quota, period) else {
-                    return None;
-                };
-                Some(Promise::Reserved(reservation))
-            }
-            Kind::Fixed(number) => {
-                let Some(rank) = Rank::new(number) else {
-                    return None;
-                };
-                Some(Promise::Fixed(rank))
-            }
-            Kind::Fair(number) => {
-                let Ok(weight) = Weight::try_from(number) else {
-                    return None;
-                };
-                Some(Promise::Fair(weight))
-            }
-        }
-    }
+// The promise of this kind, if its numbers are good.
+impl TryFrom<Kind> for Promise {
+    type Error = OutOfRange;
 
+    ghost try_from_gives = { λ kind r. MatchResult r (λ p. (kind_of p ≡ kind) × (good kind ≡ true)) (λ _. good kind ≡ false) };
+
+    fn try_from(kind: Kind) -> Result<Promise, OutOfRange> {
+        Ok(match kind {
+            Kind::Reserved(quota, period) => Promise::Reserved(Reservation::new(quota, period)?),
+            Kind::Fixed(number) => Promise::Fixed(Rank::try_from(number)?),
+            Kind::Fair(number) => Promise::Fair(Weight::try_from(number)?),
+        })
+    }
+}
+
+impl Promise {
     #[tactic(auto, unfolding(crate::specs::Stores::kind_of, crate::specs::House::is_reserved))]
     pub fn reservation(self) -> Option<Reservation>
         ensures { MatchOption result (is_reserved (task_place self) ≡ false) (λ x. task_place self ≡ reserved_place x.quota x.period) }
@@ -74,7 +64,7 @@ impl From<Promise> for Kind {
             Promise::Reserved(reservation) => {
                 Kind::Reserved(reservation.quota(), reservation.period())
             }
-            Promise::Fixed(rank) => Kind::Fixed(rank.index() as u32),
+            Promise::Fixed(rank) => Kind::Fixed(rank.into()),
             Promise::Fair(weight) => Kind::Fair(weight.get()),
         }
     }

@@ -2,9 +2,11 @@
 ghost use Rattle.std.specs.Prelude.{◌≡◌};
 ghost use Rattle.sched.specs.Called.{answer_of, done, id_of};
 ghost use Rattle.sched.specs.Refusals.{refused_by};
+ghost use Rattle.sched.specs.declared.refusal.Refusal.TheVariants.{BadNumber};
 
 use crate::Answer;
 use quantities::ids::TaskId;
+use quantities::range::OutOfRange;
 
 #[derive(Clone, Copy, PartialEq, Eq, Debug)]
 pub enum Refusal {
@@ -24,6 +26,14 @@ pub enum Refusal {
     NotOwner = 8,
     // it waits for a lock, or is asleep where it has to be awake
     Waits = 9,
+}
+
+impl From<OutOfRange> for Refusal {
+    ghost from_gives = { λ _ e. e ≡ BadNumber };
+
+    fn from(_: OutOfRange) -> Refusal {
+        Refusal::BadNumber
+    }
 }
 
 impl From<Refusal> for Answer {
@@ -50,7 +60,7 @@ impl From<Result<TaskId, Refusal>> for Answer {
 
     fn from(outcome: Result<TaskId, Refusal>) -> Answer {
         match outcome {
-            Ok(i) => Answer::Id(i.number()),
+            Ok(i) => Answer::Id(i.into()),
             Err(refusal) => refusal.into(),
         }
     }

@@ -90,7 +90,9 @@ impl Tasks {
     pub fn find(&self, number: u32) -> Option<TaskId>
         ensures { MatchOption result ((nat_lt number 64 && is_task (place_at self.now.slots number)) ≡ false) (λ t. (t.index ≡ number) × (is_task (place_at self.now.slots t.index) ≡ true)) }
     {
-        TaskId::new(number).filter(|&i| self.slot(i).is_task())
+        TaskId::try_from(number)
+            .ok()
+            .filter(|&i| self.slot(i).is_task())
     }
 
     // The lowest free place.

@@ -18,7 +18,7 @@ returns-in-Done c _ =
     let i = c.args.i.index in
     let j = c.args.j.index in
     let a = c.in-Some.told in
-    let five = (rw c.unwrap-five.ensures at c.new.ensures).0 in
+    let five = (rw c.unwrap-five.ensures at c.try_from.ensures).0 in
     let first = c.lock.ensures.taken c.if-not-lock.false in
     let task₀ = c.new-guard.ensures.ids.0 in
     let task₁ = c.lock.ensures.ids ∙ task₀ in
@@ -26,6 +26,6 @@ returns-in-Done c _ =
     let locks = ap locks_of c.call.ensures.ids.1 ∙ on-top first.0 five c.new-guard.ensures.ids.1 in
     subst (λ (x : Scheduler). (h : House) → Holds s h → HandedOn h i j x) (search rules) (goes_to s g₁.scheduler.now g₂.scheduler.now t i j a
     (took-at c.new-guard.ensures.same (index task₀) five first.1)
-    (at_both (λ x y. Let g₁.scheduler.now g₂.scheduler.now x (Lock y 5) a) (index task₁) c.number.ensures.value c.in-Some.ensures.answered)
+    (at_both (λ x y. Let g₁.scheduler.now g₂.scheduler.now x (Lock y 5) a) (index task₁) c.into.ensures.0 c.in-Some.ensures.answered)
     c.in-Done.is
     (gave_at (index task₂) locks c.drop-guard-in-Done.ensures.given))

@@ -13,7 +13,7 @@ impl Scheduler {
     pub(crate) fn make(&mut self, kind: Kind) -> Result<TaskId, Refusal>
         ensures { Called id_of self.old self.new (Call.Make kind) result }
     {
-        let promise = Promise::of(kind).ok_or(Refusal::BadNumber)?;
+        let promise = Promise::try_from(kind)?;
         let i = self.tasks.free_place().ok_or(Refusal::NoPlace)?;
         if self.tasks.shares() + promise.share() > MOST_SHARES {
             return Err(Refusal::NoShare);

@@ -25,7 +25,7 @@ impl Scheduler {
         ensures { Called done self.old self.new (Call.Lock number lock) result }
     {
         let i = self.task(number)?;
-        let m = LockId::new(lock).ok_or(Refusal::BadNumber)?;
+        let m = LockId::try_from(lock)?;
         self.not_waiting(i)?;
         if !self.tasks.is_awake(i) {
             return Err(Refusal::Waits);
@@ -35,7 +35,7 @@ impl Scheduler {
             return Ok(());
         };
         // The runner and not the owner: a ring of three closes through somebody between.
-        if self.locks.runner(owner).index() == i.index() {
+        if self.locks.runner(owner) == i {
             return Err(Refusal::Ring);
         }
         self.locks.wait(m, i);
@@ -46,7 +46,7 @@ impl Scheduler {
         ensures { Called done self.old self.new (Call.Unlock number lock) result }
     {
         let i = self.task(number)?;
-        let m = LockId::new(lock).ok_or(Refusal::BadNumber)?;
+        let m = LockId::try_from(lock)?;
         self.not_waiting(i)?;
         if !self.locks.is_owner(m, i) {
             return Err(Refusal::NotOwner);

@@ -1,5 +1,5 @@
 -- Free places and shares are those of the house; then each part stores what it keeps of a new task.
-use Rattle.std.proofs.Common.{◌≡◌, sym, ap, ◌∙◌, arith}
+use Rattle.std.proofs.Common.{◌≡◌, sym, refl, ap, ◌∙◌, arith}
 use Rattle.std.proofs.lemmas.Bool.{lt-ltb, le-ltb}
 use Rattle.sched.specs.declared.Answer.TheVariants.{Id}
 use Rattle.sched.specs.declared.refusal.Refusal.TheVariants.{BadNumber, NoPlace, NoShare}
@@ -15,13 +15,11 @@ use Rattle.sched.proofs.Scheduler.make.Goals as goal
 
 pub returns-in_err-promise : goal.returns-in_err-promise
 returns-in_err-promise c =
-    let none = ok_or-err _ c.in_err-promise.ensures.value in
-    let bad = rw none.0 at c.of.ensures in
-    turned-away BadNumber c.from_residual.ensures.1 none.1 (λ h k. make-bad h c.args.kind bad)
+    turned-away BadNumber c.from_residual.ensures.1 refl (λ h k. make-bad h c.args.kind c.in_err-promise.ensures)
 
 pub returns-in_err-i : goal.returns-in_err-i
 returns-in_err-i c =
-    let promised = rw c.in_ok-promise.ensures.ok_part at c.of.ensures in
+    let promised = c.in_ok-promise.ensures in
     let none = ok_or-err _ c.in_err-i.ensures.value in
     let full = rw none.0 at c.free_place.ensures in
     turned-away NoPlace c.from_residual-in_err-i.ensures.1 none.1 (λ h k. make-full h c.args.kind promised.1 (sym (free-told c.args.self.now h k) ∙ full))
@@ -29,7 +27,7 @@ returns-in_err-i c =
 pub returns-then-shares-share-gt-MOST_SHARES : goal.returns-then-shares-share-gt-MOST_SHARES
 returns-then-shares-share-gt-MOST_SHARES c =
     let s = c.args.self.now in
-    let promised = rw c.in_ok-promise.ensures.ok_part at c.of.ensures in
+    let promised = c.in_ok-promise.ensures in
     let place = rw c.in_ok-i.ensures.ok_part at c.free_place.ensures in
     let share = c.share.ensures.value ∙ ap share_of_kind promised.0 in
     refused-for NoShare (λ h k.
@@ -39,7 +37,7 @@ pub returns : goal.returns
 returns c =
     let s = c.args.self.now in
     let p = c.in_ok-promise.promise in
-    let promised = rw c.in_ok-promise.ensures.ok_part at c.of.ensures in
+    let promised = c.in_ok-promise.ensures in
     let i = c.in_ok-i.i in
     let place = rw c.in_ok-i.ensures.ok_part at c.free_place.ensures in
     let at : (h : House) → Holds s h → new_at h ≡ i.index = λ h k. sym (place.1 ∙ new-place-told s h k) in

@@ -10,7 +10,7 @@ use Rattle.sched.proofs.Scheduler.unlock_all.Goals as goal
 pub loop-lock-preserved : goal.loop-lock-preserved
 loop-lock-preserved c t rest =
     let i = c.args.i.index in
-    let told = subst (λ n. Told c.loop-lock.self c.unlock-done.new.self (Unlock n c.in-Some.lock) (answer_of done c.unlock-done.result)) c.number.ensures.value c.unlock-done.ensures.answered in
+    let told = subst (λ n. Told c.loop-lock.self c.unlock-done.new.self (Unlock n c.in-Some.lock) (answer_of done c.unlock-done.result)) c.into.ensures.0 c.unlock-done.ensures.answered in
     c.loop-lock.invariant t (λ h k. subst (λ ms. Holds t (returned h i ms)) (sym (on-top _ _ _ c.in-Some.ensures.items)) (rest _ (told h k).1))
 
 pub returns : goal.returns

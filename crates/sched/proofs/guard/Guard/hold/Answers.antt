@@ -11,4 +11,4 @@ returns-clause-taken c =
     let i = c.args.self.now.task in
     let m = c.args.m in
     let r = answer_of done c.lock-done.result in
-    took s t i.index m.index r m.within c.requires.ready (at_both (λ x y. Told s t (Lock x y) r) c.number.ensures.value c.index-lock.ensures.value c.lock-done.ensures.answered)
+    took s t i.index m.index r m.within c.requires.ready (at_both (λ x y. Told s t (Lock x y) r) c.into.ensures.0 c.from-lock.ensures.0 c.lock-done.ensures.answered)

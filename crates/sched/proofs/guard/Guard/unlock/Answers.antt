@@ -11,5 +11,5 @@ returns-clause-given c =
     let t = c.unlock-done.new.self in
     let i = c.args.self.now.task.index in
     let m = c.in_ok-lock.lock in
-    let told = subst (λ n. Told s t (Unlock n m) (answer_of done c.unlock-done.result)) c.number.ensures.value c.unlock-done.ensures.answered in
+    let told = subst (λ n. Told s t (Unlock n m) (answer_of done c.unlock-done.result)) c.into.ensures.0 c.unlock-done.ensures.answered in
     (on-top _ _ m c.in_ok-lock.ensures.items, gave s t i (m ∷ []) (λ h k. (told h k).1))
