@@ -1,5 +1,5 @@
 -- Owners are compared by their numbers: what `==` and `contains` say of options of tasks, in the words of the rules.
-use Rattle.std.proofs.Common.{◌≡◌, ℕ, suc, ◌<◌, Bool, true, false, ◌&&◌, eqb, List, length, get_or, Some, None, Option, sym, refl, ap, ◌∙◌, inl, inr, arith}
+use Rattle.std.proofs.Common.{◌≡◌, ℕ, suc, ◌<◌, Bool, true, false, ◌&&◌, eqb, List, length, get_or, Some, None, Option, MatchOption, sym, refl, ap, ◌∙◌, inl, inr, arith}
 use Rattle.std.proofs.lemmas.Bool.{ne_eqb, cases_Bool}
 use Rattle.std.proofs.lemmas.Bool.Decides.{nat_tests}
 use Rattle.std.proofs.lemmas.List.Elements.{All-from_get_or}
@@ -32,3 +32,8 @@ any-below p q d n xs len at =
       | inl e ↦ let w = some-witness q n e in list_any_at p xs w.0 d (omega (arith, len, w.1)) (at w.0 w.1 ∙ w.2) ∙ sym e
       | inr e ↦ list_any_none p xs (All-from_get_or (λ x. p x ≡ false) xs d (λ m l. at m (omega (arith, len, l)) ∙ none-at q n m e (omega (arith, len, l)))) ∙ sym e
     ]
+
+-- what follows of one that is there
+pub some-too : {X : Type 0} (A : Type 0) (P Q : X → Type 0) (o : Option X) → MatchOption o A P → ((x : X) → P x → Q x) → MatchOption o A Q
+some-too A P Q None told f = told
+some-too A P Q (Some x) told f = f x told

@@ -3,6 +3,7 @@ use Rattle.std.proofs.Common.{◌≡◌, ℕ, ◌+◌, ◌<◌, ◌≤◌, Bool,
 use mathlib.Core.Bool.{false≢true}
 use Rattle.std.proofs.lemmas.Bool.{cases_Bool, lt-ltb, le-ltb, ltb-true, ltb-false, both_ways}
 use Rattle.quantities.specs.Ids.{TaskId}
+use Rattle.quantities.specs.declared.promises.Reservation.{Reservation}
 use Rattle.windows.specs.Life as life
 use Rattle.windows.specs.declared.Window as code-window
 use Rattle.sched.specs.House.{House, Place, Window, Shut, Open, Nobody, is_reserved, quota_of, got_of, some', due}
@@ -53,12 +54,6 @@ whole-first (Open x g true) (Open f k true) e s = (refl, ltb-false x f s)
 whole-first (Open x g true) (Open f k false) e s = absurd (true≢false s)
 whole-first (Open x g false) w e s = absurd (false≢true e)
 
--- who is due, by what is known of it
-module _ (p : Place) (v : Bool) (x : Window) where
-  pub due-told : (w : code-window.Window) (b : Bool) (q d n m : ℕ) → p ≡ reserved_place q d → b ≡ v → b ≡ true → window_of w ≡ x → n ≡ life.got_of (life.life w) → m ≡ q → ltb n m ≡ (is_reserved p && v && ltb (got_of x) (quota_of p))
-  unfolding is_reserved quota_of
-  due-told w b q d n m e f t g is at = rw (e, ← f, t, is, at, got-told w, g) refl
-
 -- past the places nobody is due
 pub past-due : (h : House) (k : ℕ) → h.place k ≡ Nobody → due h k ≡ false
 unfolding is_reserved
@@ -101,3 +96,10 @@ best-all h (Some i) b =
           let w = whole-first (h.window j) (h.window i.index) whole-j (b.1 j l due-j) in
           (and_T (due h i.index) (is_whole (h.window i.index)) (true-T _ b.0) (true-T _ w.0), w.1);
     }
+
+-- the same, whether or not there is a reservation
+pub due-either : (p : Place) (v : Bool) (x : Window) {s : Place} (o : Option Reservation) (w : code-window.Window) (b r : Bool) → p ≡ s → MatchOption o (is_reserved s ≡ false) (λ a. s ≡ reserved_place a.quota a.period) →
+    MatchOption o (r ≡ false) (λ a. r ≡ (b && ltb (life.got_of (life.life w)) a.quota)) → b ≡ v → window_of w ≡ x → r ≡ (is_reserved p && v && ltb (got_of x) (quota_of p))
+unfolding is_reserved quota_of
+due-either p v x None w b r e none told is at = told ∙ rw (e, none) refl
+due-either p v x (Some a) w b r e some told is at = told ∙ rw (e, some, is, got-told w, at) refl

@@ -120,6 +120,7 @@ impl Fair {
     fn is_nearer(&self, position: Position) -> bool
         ensures { (base i : ℕ) (h : House) → StandsAt base i h position → Begins base i self.now h → MatchOption self.now.least (result ≡ true) (λ j. result ≡ nearer (opened h) i j.index) }
     {
+        // No `is_none_or`: what a closure indexes isn't known to be the position, and the proof didn't close.
         match self.least {
             Some(j) => position.is_behind(self.positions[j.index()]),
             None => true,

@@ -99,19 +99,14 @@ impl Reserved {
     fn is_due(&self, tasks: &Tasks, wants: &Wants, i: TaskId) -> bool
         ensures { (h : House) → SlotsOf tasks.now h → WantsOf wants.now h → WindowsOf self.now h → result ≡ due h i.index }
     {
-        match tasks.slot(i).reservation() {
-            Some(reservation) => wants.of(i) && self.window(i).got() < reservation.quota(),
-            None => false,
-        }
+        tasks.slot(i).reservation().is_some_and(|reservation| wants.of(i)
+            && self.window(i).got() < reservation.quota())
     }
 
     fn goes_before(&self, i: TaskId, other: Option<TaskId>) -> bool
         ensures { (w : ℕ → RulesWindow) → Reads window_of shut self.now.windows w → MatchOption other (result ≡ true) (λ j. result ≡ sooner_than (w i.index) (w j.index)) }
     {
-        match other {
-            Some(j) => self.window(i).goes_before(self.window(j)),
-            None => true,
-        }
+        other.is_none_or(|j| self.window(i).goes_before(self.window(j)))
     }
 
     // The better of the best so far and i.
