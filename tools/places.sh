@@ -29,6 +29,6 @@ find_all '5b what a scheduler stands for, in contracts' '\(h : House\) → Holds
 find_all '6a lengths beside buffers' '^ +(pub )?(len|used|steps|at): usize,'
 find_all '6b arrays in structs' '^ +(pub )?[a-z]+: \[[A-Za-z<>0-9]+; [A-Za-z0-9_]+\],'
 find_all '7 switches on a step' 'match self\.layer'
-answers=$(find crates -path '*/proofs/*' -name Answers.antt | wc -l)
-lines=$(find crates -path '*/proofs/*' -name '*.antt' -exec cat {} + | wc -l)
+answers=$(git ls-files 'crates/*/proofs/*Answers.antt' | wc -l)
+lines=$(git ls-files 'crates/*/proofs/*.antt' | xargs cat | wc -l)
 echo "8 files of answers: $answers, lines of proofs: $lines"

@@ -8,6 +8,7 @@ ghost use Rattle.queues.specs.Outcomes.{First, StandsIn, Pushed, Removed, Moved}
 
 use quantities::ids::{QueueId, TaskId};
 
+// The links are an arena in fixed memory, since nothing here may use a heap.
 // Who stands behind a member, who stands before it, and in which queue. Unless it stands in one, the neighbours mean nothing.
 #[derive(Clone, Copy)]
 struct Link {

@@ -19,6 +19,7 @@ const FAR: u32 = 1024;
 
 #[derive(Drop)]
 pub struct Fair {
+    // Two arrays and not one of pairs: the rules have the two apart, and each stands for one of their functions.
     positions: [Position; 64],
     // a fair task that wanted the last tick
     wanted: [bool; 64],

@@ -121,7 +121,7 @@ impl Scheduler {
         }
     }
 
-    // Whose the next tick is, and who runs in it.
+    // Whose the next tick is, and who runs in it. The pair is what `hours` hands on, whose text is fixed.
     pub fn pick(&mut self) -> (Option<u32>, u32)
         ensures { (h : House) → Holds self.old h → T (may_run h result.0 result.1) × Holds self.new (after h result.0) }
     {
@@ -148,7 +148,7 @@ pub fn scheduler_is_small() -> bool
     std::mem::size_of::<Scheduler>() <= 65536
 }
 
-// THE MAIN PROMISE. Whatever is called, tick after tick.
+// THE MAIN PROMISE. Whatever is called, tick after tick. Its text is fixed, and the loop with it.
 pub fn hours<W: World>(w: &mut W, many: u64)
     requires begins { W.house w.old ≡ empty }
 {

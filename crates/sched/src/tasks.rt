@@ -65,6 +65,7 @@ impl Slot {
 
 #[derive(Drop)]
 pub struct Tasks {
+    // Two arrays and not one of pairs: the rules have the two apart, and each stands for one of their functions.
     slots: [Slot; 64],
     awake: [bool; 64],
 }
