@@ -1,3 +1,1 @@
 pub mod Transcripts
-pub mod Turned
-pub mod Written

@@ -1,6 +1,6 @@
 -- A script played into a log: what comes next, and what the log holds in the end.
 -- Assumes nothing.
-use Rattle.std.specs.Prelude.{◌≡◌, ℕ, ◌<◌, ◌≤◌, min, List, length, take, drop, slice_index_or}
+use Rattle.std.specs.Prelude.{◌≡◌, ℕ, ◌<◌, ◌≤◌, min, List, map, length, take, drop, slice_index_or}
 use Rattle.sched.specs.declared.Next.{Next}
 use Rattle.sched.specs.declared.Next.TheVariants as next
 use Rattle.sched.specs.House.{empty}
@@ -8,6 +8,11 @@ use Rattle.memory.specs.declared.entry.Entry.{Entry}
 use Rattle.memory.specs.declared.entry.Step.{Step}
 use Rattle.memory.specs.declared.entry.Step.TheVariants.{Tick, Calls}
 use Rattle.memory.specs.Run.{Run, Follows, outcome}
+
+-- a step as what comes next
+abbrev pub next_of : Step → Next
+next_of Tick = next.Tick
+next_of (Calls c) = next.Calls c
 
 -- With n entries written, what comes next: the script's next step if there is one, and room for its entry.
 abbrev pub Asks : (script : List Step) (log : List Entry) (n : ℕ) → Next → Type 0
@@ -19,5 +24,12 @@ Asks script log n next.Over = min (length script) (length log) ≤ n
 pub record Played (script : List Step) (before after : List Entry) (written : ℕ) : Type 0 where
   pub runs : Run empty (take written after) (outcome empty (take written after))
   pub answers : Follows script (take written after)
+  pub rest : drop written after ≡ drop written before
+  pub len : length after ≡ length before
+
+-- The same of what stands for steps and entries: as many as there are and have room, and the rest is as it was.
+pub record PlayedAs {S E : Type 0} (step : S → Step) (entry : E → Entry) (script : List S) (before after : List E) (written : ℕ) : Type 0 where
+  pub many : written ≡ min (length script) (length before)
+  pub played : Played (map step script) (map entry before) (map entry after) written
   pub rest : drop written after ≡ drop written before
   pub len : length after ≡ length before

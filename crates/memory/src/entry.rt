@@ -1,5 +1,7 @@
 // What a script asks for, and what a log holds.
-use sched::{Answer, Call};
+ghost use Rattle.std.specs.Prelude.{◌≡◌};
+
+use sched::{Answer, Call, Next};
 
 // A step of a script.
 #[derive(Clone, Copy)]
@@ -13,4 +15,18 @@ pub enum Step {
 pub enum Entry {
     Ran(Option<u32>, u32),
     Called(Call, Answer),
+}
+
+// What comes next is the step.
+impl From<Step> for Next {
+    ghost use Rattle.memory.specs.Played.{next_of};
+
+    ghost from_gives = { λ step next. next ≡ next_of step };
+
+    fn from(step: Step) -> Next {
+        match step {
+            Step::Tick => Next::Tick,
+            Step::Calls(c) => Next::Calls(c),
+        }
+    }
 }

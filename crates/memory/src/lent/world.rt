@@ -1,11 +1,12 @@
 // The lent recorder as a world: the house is what was written comes to, and it may go on while there is room.
 ghost use Rattle.memory.specs.Recorded.{house_of, room_in};
 
+use crate::forms::{AsEntry, AsStep};
 use crate::lent::LentRecorder;
 use sched::{Answer, Call, Next, World};
 
-impl<'a> World for LentRecorder<'a> {
-    ghost house = { house_of };
+impl<'a, S: AsStep, E: AsEntry> World for LentRecorder<'a, S, E> {
+    ghost house = { house_of E.entry };
 
     ghost left = { room_in };
 

@@ -12,4 +12,4 @@ returns-then-first_bad-steps c =
     })
 
 pub returns : goal.returns
-returns c = inr ((λ k l. c.first_bad.ensures.before k (omega arith)), c.record.ensures)
+returns c = inr ((λ k l. c.first_bad.ensures.before k (omega arith)), c.play_into.ensures)
