@@ -47,14 +47,14 @@ module _ {S E : Type 0} (step : S → Step) (entry : E → Entry) where
 
   module _ (from at : LentRecorder S E) (s : Scheduler) (n : ℕ) (turn : Turn step entry from at s n) where
     -- one more, which writes e
-    turn_more : (to : LentRecorder S E) (s' : Scheduler) (e : Entry) → Wrote entry at to e → at.used < length (map step at.script.now) → at.used < length (map entry at.log.now) →
+    turn_more : (to : LentRecorder S E) (s' : Scheduler) (e : Entry) → Wrote entry at to e → at.used < length (map step at.script.now) → at.used < length at.log.now →
         Answers (get_or (map step at.script.now) at.used Tick) e → T (allowed (house_of entry at) e) → Holds s' (entered (house_of entry at) e) → Turn step entry from to s' (n + 1)
     turn_more to s' e wrote more room answers fits holds =
         record {
-          stands = subst (Holds s') (sym (written-house entry at to e wrote (let r = rw (length-map at.log.now entry) at room in omega arith))) holds;
+          stands = subst (Holds s') (sym (written-house entry at to e wrote (omega arith))) holds;
           used = wrote.used ∙ ap (λ (k : ℕ). k + 1) turn.used;
           playing = rw (wrote.used, written_log entry at to e wrote)
-              (playing-more (map step from.script.now) (map entry from.log.now) (map entry at.log.now) at.used e turn.playing (rw turn.script at more) room (rw turn.script at answers) fits);
+              (playing-more (map step from.script.now) (map entry from.log.now) (map entry at.log.now) at.used e turn.playing (rw turn.script at more) (rw (length-map at.log.now entry) room) (rw turn.script at answers) fits);
           rest = rw (wrote.used, wrote.log) (drop-set-lt (at.used + 1) at.log.now at.used wrote.written (omega arith) ∙ sym (drop-drop 1 at.used at.log.now) ∙ ap (drop 1) turn.rest ∙ drop-drop 1 at.used from.log.now);
           len = rw wrote.log (length-set at.log.now at.used wrote.written ∙ turn.len);
           script = wrote.script ∙ turn.script;
@@ -62,7 +62,7 @@ module _ {S E : Type 0} (step : S → Step) (entry : E → Entry) where
         }
 
     -- a call, answered as the rules say
-    pub turn-called : (asked to : LentRecorder S E) (s' : Scheduler) (c : Call) (a : Answer) → asked ≡ at → Wrote entry asked to (Called c a) → Asks (map step at.script.now) (map entry at.log.now) at.used (next.Calls c) →
+    pub turn-called : (asked to : LentRecorder S E) (s' : Scheduler) (c : Call) (a : Answer) → asked ≡ at → Wrote entry asked to (Called c a) → Asks (map step at.script.now) (length at.log.now) at.used (next.Calls c) →
         ((h : House) → Holds s h → (a ≡ (calls c h).answer) × Holds s' (calls c h).house) → Turn step entry from to s' (n + 1)
     turn-called asked to s' c a same wrote asks says =
         let outcome-is = says (house_of entry at) turn.stands in
@@ -70,17 +70,16 @@ module _ {S E : Type 0} (step : S → Step) (entry : E → Entry) where
         (told-allowed (house_of entry at) c a outcome-is.0) (subst (Holds s') (sym (told-entered (house_of entry at) c a)) outcome-is.1)
 
     -- a tick that may be
-    pub turn-ran : (asked to : LentRecorder S E) (s' : Scheduler) (t : Option ℕ) (j : ℕ) → asked ≡ at → Wrote entry asked to (Ran t j) → Asks (map step at.script.now) (map entry at.log.now) at.used next.Tick →
+    pub turn-ran : (asked to : LentRecorder S E) (s' : Scheduler) (t : Option ℕ) (j : ℕ) → asked ≡ at → Wrote entry asked to (Ran t j) → Asks (map step at.script.now) (length at.log.now) at.used next.Tick →
         ((h : House) → Holds s h → T (may_run h t j) × Holds s' (after h t)) → Turn step entry from to s' (n + 1)
     turn-ran asked to s' t j same wrote asks says =
         let outcome-is = says (house_of entry at) turn.stands in
         turn_more to s' (Ran t j) (subst (λ (w : LentRecorder S E). Wrote entry w to (Ran t j)) same wrote) asks.0 asks.1 (subst (λ (x : Step). Answers x (Ran t j)) (sym asks.2) tick)
         (ran-allowed (house_of entry at) t j outcome-is.0) (subst (Holds s') (sym (ran-entered (house_of entry at) t j)) outcome-is.1)
 
-    count : (many : ℕ) → n ≤ many → (many ≤ n) ⊎ (min (length (map step at.script.now)) (length (map entry at.log.now)) ≤ at.used) → at.used ≡ min many (min (length from.script.now) (length from.log.now))
+    count : (many : ℕ) → n ≤ many → (many ≤ n) ⊎ (min (length (map step at.script.now)) (length at.log.now) ≤ at.used) → at.used ≡ min many (min (length from.script.now) (length from.log.now))
     count many le over =
         let steps = length-map at.script.now step in
-        let entries = length-map at.log.now entry in
         let steps-from = length-map from.script.now step in
         let entries-from = length-map from.log.now entry in
         let e = ap length turn.script in
@@ -89,7 +88,7 @@ module _ {S E : Type 0} (step : S → Step) (entry : E → Entry) where
         ⊎_elim {C = at.used ≡ min many (min (length from.script.now) (length from.log.now))} (λ o. omega arith) (λ o. omega arith) over
 
     -- the turns are over, or the steps, or the room
-    pub turn_last : (many : ℕ) → n ≤ many → (many ≤ n) ⊎ (min (length (map step at.script.now)) (length (map entry at.log.now)) ≤ at.used) → Ended step entry from at many
+    pub turn_last : (many : ℕ) → n ≤ many → (many ≤ n) ⊎ (min (length (map step at.script.now)) (length at.log.now) ≤ at.used) → Ended step entry from at many
     turn_last many le over =
         record {
           used = count many le over;

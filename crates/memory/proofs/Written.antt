@@ -16,16 +16,16 @@ use Rattle.memory.specs.Recorded.{house_of, room_in, Wrote}
 use Rattle.memory.proofs.Runs.{outcome-push}
 
 -- what goes on has room
-pub asks-room : (script : List Step) (log : List Entry) (n : ℕ) (r : Next) → Asks script log n r → T (goes_on' r) → 0 < length log - n
+pub asks-room : (script : List Step) (room n : ℕ) (r : Next) → Asks script room n r → T (goes_on' r) → 0 < room - n
 unfolding goes_on'
-asks-room script log n (next.Calls c) a t = omega arith
-asks-room script log n next.Tick a t = omega arith
-asks-room script log n next.Over a t = absurd t
+asks-room script room n (next.Calls c) a t = omega arith
+asks-room script room n next.Tick a t = omega arith
+asks-room script room n next.Over a t = absurd t
 
 -- the script's next step is what comes next, where there is room
-pub asks-next : (script : List Step) (log : List Entry) (n : ℕ) (s : Step) → n < length script → n < length log → get_or script n Tick ≡ s → Asks script log n (next_of s)
-asks-next script log n Tick more room e = (more, room, e)
-asks-next script log n (Calls c) more room e = (more, room, e)
+pub asks-next : (script : List Step) (room n : ℕ) (s : Step) → n < length script → n < room → get_or script n Tick ≡ s → Asks script room n (next_of s)
+asks-next script room n Tick more fits e = (more, fits, e)
+asks-next script room n (Calls c) more fits e = (more, fits, e)
 
 module _ {S E : Type 0} (entry : E → Entry) (from to : LentRecorder S E) (e : Entry) (wrote : Wrote entry from to e) where
   -- the entries are as they were, with one more

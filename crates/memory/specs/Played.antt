@@ -14,11 +14,11 @@ abbrev pub next_of : Step → Next
 next_of Tick = next.Tick
 next_of (Calls c) = next.Calls c
 
--- With n entries written, what comes next: the script's next step if there is one, and room for its entry.
-abbrev pub Asks : (script : List Step) (log : List Entry) (n : ℕ) → Next → Type 0
-Asks script log n (next.Calls c) = (n < length script) × (n < length log) × (slice_index_or script n Tick ≡ Calls c)
-Asks script log n next.Tick = (n < length script) × (n < length log) × (slice_index_or script n Tick ≡ Tick)
-Asks script log n next.Over = min (length script) (length log) ≤ n
+-- With n entries written, of which there is room for so many, what comes next: the script's next step if there is one, and room for its entry.
+abbrev pub Asks : (script : List Step) (room n : ℕ) → Next → Type 0
+Asks script room n (next.Calls c) = (n < length script) × (n < room) × (slice_index_or script n Tick ≡ Calls c)
+Asks script room n next.Tick = (n < length script) × (n < room) × (slice_index_or script n Tick ≡ Tick)
+Asks script room n next.Over = min (length script) room ≤ n
 
 -- The log's first entries are a legal run from the empty house, each answers its step of the script, and the rest is as it was.
 pub record Played (script : List Step) (before after : List Entry) (written : ℕ) : Type 0 where

@@ -10,10 +10,10 @@ use Rattle.memory.specs.Run.{outcome}
 use Rattle.memory.specs.Played.{Played}
 
 abbrev pub script_of : Recorder → List Step
-script_of w = take w.steps w.script
+script_of w = w.script.items
 
 abbrev pub entries_of : Recorder → List Entry
-entries_of w = take w.used w.log
+entries_of w = w.log.items
 
 abbrev pub house_of : {S E : Type 0} → (E → Entry) → LentRecorder S E → House
 house_of entry w = outcome empty (take w.used (map entry w.log.now))

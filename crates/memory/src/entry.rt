@@ -4,8 +4,9 @@ ghost use Rattle.std.specs.Prelude.{◌≡◌};
 use sched::{Answer, Call, Next};
 
 // A step of a script.
-#[derive(Clone, Copy)]
+#[derive(Clone, Copy, Default)]
 pub enum Step {
+    #[default]
     Tick,
     Calls(Call),
 }
@@ -15,6 +16,13 @@ pub enum Step {
 pub enum Entry {
     Ran(Option<u32>, u32),
     Called(Call, Answer),
+}
+
+// What stands where nothing was recorded.
+impl Default for Entry {
+    fn default() -> Entry {
+        Entry::Ran(None, 0)
+    }
 }
 
 // What comes next is the step.

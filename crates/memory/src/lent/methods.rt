@@ -1,5 +1,5 @@
 // Making a recorder over lent slices; what it hands out and writes, in terms of the slices.
-ghost use Rattle.std.specs.Prelude.{◌≡◌, ◌<◌, map};
+ghost use Rattle.std.specs.Prelude.{◌≡◌, ◌<◌, length, map};
 ghost use Rattle.memory.specs.Recorded.{room_in, Wrote};
 ghost use Rattle.memory.specs.Played.{Asks};
 
@@ -33,7 +33,7 @@ impl<'a, S: AsStep, E: AsEntry> LentRecorder<'a, S, E> {
     // The script's next step, if there is one and room for its entry.
     pub fn next(&mut self) -> Next
         ensures same { self.new ≡ self.old }
-        ensures asks { Asks (map S.step self.old.script.now) (map E.entry self.old.log.now) self.old.used result }
+        ensures asks { Asks (map S.step self.old.script.now) (length self.old.log.now) self.old.used result }
     {
         if self.used >= self.script.len() || self.used >= self.log.len() {
             return Next::Over;
