@@ -35,6 +35,7 @@ pub fn wendrifoy_first_bad(steps: &[WireStep]) -> u64
 
 // The hours of these steps, as far as there is room in the log. How many entries were written from its start, or `REFUSED` if one
 // of the steps isn't good: then nothing is played.
+#[tactic(auto, using(crate::proofs::Good::refused, crate::proofs::Good::all_good))]
 pub fn wendrifoy_hours(steps: &[WireStep], log: &mut [WireEntry]) -> u64
     ensures { Refused steps.now log.old log.new result ⊎ AllGood steps.now }
 {
@@ -52,6 +53,7 @@ fn run<'a>(steps: &'a [WireStep], log: &'a mut [WireEntry]) -> usize {
 }
 
 // The same by a loop of its own, which is proved to leave a legal run in the log.
+#[tactic(auto, using(crate::proofs::Good::refused, crate::proofs::Good::all_good))]
 pub fn wendrifoy_record(steps: &[WireStep], log: &mut [WireEntry]) -> u64
     ensures { Refused steps.now log.old log.new result ⊎ (AllGood steps.now × Kept steps.now log.old log.new result) }
 {

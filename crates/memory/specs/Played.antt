@@ -3,11 +3,10 @@
 use Rattle.std.specs.Prelude.{◌≡◌, ℕ, ◌<◌, ◌≤◌, min, List, map, length, take, drop, slice_index_or}
 use Rattle.sched.specs.declared.Next.{Next}
 use Rattle.sched.specs.declared.Next.TheVariants as next
-use Rattle.sched.specs.House.{empty}
 use Rattle.memory.specs.declared.entry.Entry.{Entry}
 use Rattle.memory.specs.declared.entry.Step.{Step}
 use Rattle.memory.specs.declared.entry.Step.TheVariants.{Tick, Calls}
-use Rattle.memory.specs.Run.{Run, Follows, outcome}
+use Rattle.memory.specs.Run.{IsRun, Follows}
 
 -- a step as what comes next
 abbrev pub next_of : Step → Next
@@ -22,7 +21,7 @@ Asks script room n next.Over = min (length script) room ≤ n
 
 -- The log's first entries are a legal run from the empty house, each answers its step of the script, and the rest is as it was.
 pub record Played (script : List Step) (before after : List Entry) (written : ℕ) : Type 0 where
-  pub runs : Run empty (take written after) (outcome empty (take written after))
+  pub runs : IsRun (take written after)
   pub answers : Follows script (take written after)
   pub rest : drop written after ≡ drop written before
   pub len : length after ≡ length before

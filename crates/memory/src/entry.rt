@@ -20,6 +20,10 @@ pub enum Entry {
 
 // What stands where nothing was recorded.
 impl Default for Entry {
+    ghost use Rattle.memory.specs.Run.{blank};
+
+    ghost is_default = { λ e. e ≡ blank };
+
     fn default() -> Entry {
         Entry::Ran(None, 0)
     }

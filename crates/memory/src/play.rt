@@ -2,18 +2,17 @@
 ghost use Rattle.std.specs.Prelude.{◌≡◌, ◌<◌, length, MatchOption};
 ghost use Rattle.memory.specs.Played.{PlayedAs};
 ghost use Rattle.memory.specs.Recorded.{Ended, entries_of};
-ghost use Rattle.memory.specs.Run.{Run, outcome};
-ghost use Rattle.sched.specs.House.{empty};
+ghost use Rattle.memory.specs.Run.{IsRun};
 
-use crate::entry::Step;
+use crate::entry::{Entry, Step};
 use crate::forms::{AsEntry, AsStep};
 use crate::lent::LentRecorder;
 use crate::recorder::Recorder;
-use sched::{Next, Scheduler, World, hours};
+use sched::{Next, Scheduler, hours};
 
 // The hours of this script on a recorder of its own; none if it is longer than there is room for.
 pub fn recorded(script: &[Step]) -> Option<Recorder>
-    ensures { MatchOption result (1024 < length script.now) (λ w. Run empty (entries_of w) (outcome empty (entries_of w))) }
+    ensures { MatchOption result (1024 < length script.now) (λ w. IsRun (entries_of w)) }
 {
     let mut w = Recorder::new(script)?;
     hours(&mut w, script.len() as u64);
@@ -37,18 +36,14 @@ fn play<'a, S: AsStep, E: AsEntry>(w: &mut LentRecorder<'a, S, E>, many: u64)
 {
     let mut s = Scheduler::new();
     for _ in 0..many {
-        match w.next() {
-            Next::Calls(c) => {
-                let a = s.call(c);
-                w.told(c, a);
-            }
+        let entry = match w.next() {
+            Next::Calls(c) => Entry::Called(c, s.call(c)),
             Next::Tick => {
-                let (t, j) = s.pick();
-                w.runs(t, j);
+                let (whose, runs) = s.pick();
+                Entry::Ran(whose, runs)
             }
-            Next::Over => {
-                return;
-            }
-        }
+            Next::Over => return,
+        };
+        w.record(entry);
     }
 }

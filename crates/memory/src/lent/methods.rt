@@ -6,7 +6,7 @@ ghost use Rattle.memory.specs.Played.{Asks};
 use crate::entry::{Entry, Step};
 use crate::forms::{AsEntry, AsStep};
 use crate::lent::LentRecorder;
-use sched::{Answer, Call, Next};
+use sched::Next;
 
 impl<'a, S: AsStep, E: AsEntry> LentRecorder<'a, S, E> {
     // To play this script into this log, from its start.
@@ -42,24 +42,8 @@ impl<'a, S: AsStep, E: AsEntry> LentRecorder<'a, S, E> {
         step.into()
     }
 
-    // A call and its answer.
-    pub(crate) fn told(&mut self, c: Call, a: Answer)
-        requires { 0 < room_in self.old }
-        ensures { Wrote E.entry self.old self.new (Entry.Called c a) }
-    {
-        self.record(Entry::Called(c, a));
-    }
-
-    // Whose a tick was, and who ran in it.
-    pub(crate) fn runs(&mut self, whose: Option<u32>, runs: u32)
-        requires { 0 < room_in self.old }
-        ensures { Wrote E.entry self.old self.new (Entry.Ran whose runs) }
-    {
-        self.record(Entry::Ran(whose, runs));
-    }
-
     // One more entry.
-    fn record(&mut self, entry: Entry)
+    pub(crate) fn record(&mut self, entry: Entry)
         requires { 0 < room_in self.old }
         ensures { Wrote E.entry self.old self.new entry }
     {

@@ -1,7 +1,7 @@
 // Making a recorder, what it hands out, and reading what it has recorded.
 ghost use Rattle.std.specs.Prelude.{◌≡◌, ◌<◌, ◌≤◌, T, [], ◌∷◌, ◌++◌, length, MatchOption, slice_index_or};
 ghost use Rattle.sched.specs.House.{empty};
-ghost use Rattle.memory.specs.Run.{Run, outcome, allowed, blank};
+ghost use Rattle.memory.specs.Run.{IsRun, outcome, allowed, blank};
 ghost use Rattle.memory.specs.Recorded.{script_of, entries_of};
 ghost use Rattle.memory.specs.Played.{Asks};
 
@@ -39,7 +39,7 @@ impl Recorder {
     // All entries: a legal run from the empty house.
     pub fn entries(&self) -> &[Entry]
         ensures value { result.now ≡ entries_of self.now }
-        ensures runs { Run empty result.now (outcome empty result.now) }
+        ensures runs { IsRun result.now }
     {
         self.log.as_slice()
     }

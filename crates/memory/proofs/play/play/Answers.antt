@@ -10,12 +10,12 @@ loop-init g c = (turn-none g.S.AsStep.step g.E.AsEntry.entry c.args.w.now c.new-
 pub loop-preserved : goal.loop-preserved
 loop-preserved g c = (
   elim c.match-next.branch [
-    | in-Calls w ↦ rw (w.w-is, w.s-is)
-        (turn-called g.S.AsStep.step g.E.AsEntry.entry c.args.w.now c.loop.w c.loop.s c.loop.counter c.loop.invariant.0 c.next.new.self w.told.new.self w.call-a.new.self w.in-Calls.c w.call-a.result
-        c.next.ensures.same w.told.ensures w.in-Calls.ensures.asks w.call-a.ensures.answered)
-    | in-Tick w ↦ rw (w.w-is, w.s-is)
-        (turn-ran g.S.AsStep.step g.E.AsEntry.entry c.args.w.now c.loop.w c.loop.s c.loop.counter c.loop.invariant.0 c.next.new.self w.runs.new.self w.pick-t.new.self w.pick-t.result.0 w.pick-t.result.1
-        c.next.ensures.same w.runs.ensures w.in-Tick.ensures.asks w.pick-t.ensures)
+    | in-Calls w ↦ rw w.s-is
+        (turn-called g.S.AsStep.step g.E.AsEntry.entry c.args.w.now c.loop.w c.loop.s c.loop.counter c.loop.invariant.0 c.next.new.self c.record.new.self w.call.new.self w.in-Calls.c w.call.result
+        c.next.ensures.same (rw w.entry-is at c.record.ensures) w.in-Calls.ensures.asks w.call.ensures.answered)
+    | in-Tick w ↦ rw w.s-is
+        (turn-ran g.S.AsStep.step g.E.AsEntry.entry c.args.w.now c.loop.w c.loop.s c.loop.counter c.loop.invariant.0 c.next.new.self c.record.new.self w.pick-whose.new.self w.pick-whose.result.0 w.pick-whose.result.1
+        c.next.ensures.same (rw w.entry-is at c.record.ensures) w.in-Tick.ensures.asks w.pick-whose.ensures)
   ],
   omega arith,
 )
