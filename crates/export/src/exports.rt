@@ -11,7 +11,7 @@ use player::play;
 use sched::hours;
 use script::sink::Stopped;
 
-// What is answered in place of a count: the transcript has no room, or a step isn't one.
+// What is answered in place of a count: the transcript has no room, or a step isn't one. A number, for C's sake.
 const REFUSED: u64 = u64::MAX;
 
 // Plays the script as the program does, into the transcript from its start. How many bytes were written, or `REFUSED` if there

@@ -8,6 +8,7 @@ use script::sink::{Sink, Stopped};
 #[derive(Drop)]
 pub struct Transcript<'a> {
     room: &'a mut [u8],
+    // how many bytes were written: the room is the lender's, so that its length is no count of them
     len: usize,
 }
 

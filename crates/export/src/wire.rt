@@ -1,4 +1,4 @@
-// Steps and entries as plain numbers, in the layout that C gives them.
+// Steps and entries as plain numbers, not enums: the C interface needs the layout that C gives them.
 ghost use Rattle.std.specs.Prelude.{◌≡◌, false, ◌==◌};
 ghost use Rattle.export.specs.Wire.{good, call_of, step_of, entry_of};
 

@@ -6,5 +6,6 @@ pub mod world;
 pub struct LentRecorder<'a, S, E> {
     script: &'a [S],
     log: &'a mut [E],
+    // how many entries stand in the log, which is the lender's, so that its length is no count of them
     used: usize,
 }
