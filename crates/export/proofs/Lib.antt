@@ -1,3 +1,2 @@
+pub mod Good
 pub mod Transcripts
-pub mod Turned
-pub mod Written

@@ -1,7 +1,7 @@
 -- Steps played into a log of numbers: which of them are good, and what the log holds in the end.
 -- Assumes nothing.
-use Rattle.std.specs.Prelude.{◌≡◌, ℕ, ◌<◌, ◌≤◌, min, true, false, List, map, length, drop, slice_index_or}
-use Rattle.memory.specs.Played.{Played}
+use Rattle.std.specs.Prelude.{◌≡◌, ℕ, ◌<◌, ◌≤◌, true, false, List, length, slice_index_or}
+use Rattle.memory.specs.Played.{PlayedAs}
 use Rattle.export.specs.declared.wire.WireEntry.{WireEntry}
 use Rattle.export.specs.declared.wire.WireStep.{WireStep}
 use Rattle.export.specs.Wire.{good, no_step, step_of, entry_of}
@@ -16,11 +16,8 @@ pub record FirstBad (steps : List WireStep) (at : ℕ) : Type 0 where
   pub here : at < length steps → good (slice_index_or steps at no_step) ≡ false
 
 -- The log's first entries are a legal run from the empty house that answers the steps one by one, as many as there are and have room; the rest is as it was.
-pub record Kept (steps : List WireStep) (before after : List WireEntry) (written : ℕ) : Type 0 where
-  pub many : written ≡ min (length steps) (length before)
-  pub played : Played (map step_of steps) (map entry_of before) (map entry_of after) written
-  pub rest : drop written after ≡ drop written before
-  pub len : length after ≡ length before
+abbrev pub Kept : (steps : List WireStep) (before after : List WireEntry) (written : ℕ) → Type 0
+Kept = PlayedAs step_of entry_of
 
 -- A step isn't good, and nothing was played.
 pub record Refused (steps : List WireStep) (before after : List WireEntry) (answer : ℕ) : Type 0 where

@@ -1,4 +1,3 @@
-pub mod Exchanged
 pub mod Kept
 pub mod Room
 pub mod Transcribed

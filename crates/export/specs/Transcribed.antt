@@ -2,14 +2,14 @@
 -- Assumes nothing.
 use Rattle.std.specs.Prelude.{◌≡◌, ℕ, ◌≤◌, List, ◌∷◌, ◌++◌, length, take, drop}
 use Rattle.player.specs.Evening.{Allowed}
-use Rattle.export.specs.declared.accounted.Accounted.{Accounted}
+use Rattle.export.specs.declared.transcript.Transcript.{Transcript}
 
 -- What an account is made from, in numbers: who lent the room, how long it is, and what stood in it.
 abbrev pub origin : (lender : ℕ) (room : List ℕ) → List ℕ
 origin lender room = lender ∷ length room ∷ room
 
 -- All that an account took: what it is made from, then what was written. Behind that the room is as it was.
-pub record Took (t : Accounted) (all : List ℕ) : Type 0 where
+pub record Took (t : Transcript) (all : List ℕ) : Type 0 where
   pub before : List ℕ
   pub written : all ≡ origin t.room.ghost_name before ++ take t.len t.room.now
   pub fits : t.len ≤ length before

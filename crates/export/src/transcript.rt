@@ -1,5 +1,6 @@
-// A lent slice that takes what a script's player writes.
-ghost use Rattle.std.specs.Prelude.{◌≡◌, take};
+// A lent slice that takes what a script's player writes. All of it is accounted for: what was written, and that the rest is as it was lent.
+ghost use Rattle.std.specs.Prelude.{◌≡◌, ℕ, true, List, ◌++◌, take, is_ok};
+ghost use Rattle.export.specs.Transcribed.{Took};
 
 use crate::room::write_after;
 use script::sink::{Sink, Stopped};
@@ -7,6 +8,7 @@ use script::sink::{Sink, Stopped};
 #[derive(Drop)]
 pub struct Transcript<'a> {
     room: &'a mut [u8],
+    // how many bytes were written: the room is the lender's, so that its length is no count of them
     len: usize,
 }
 
@@ -29,15 +31,13 @@ impl<'a> Transcript<'a> {
 
 // Takes the lines, or none of them if there is no room.
 impl<'a> Sink for Transcript<'a> {
-    ghost took = { λ t xs. take t.len t.room.now ≡ xs };
+    ghost took = { Took };
 
-    fn take(&mut self, lines: &[u8]) -> Result<(), Stopped> {
-        match write_after(self.room, self.len, lines) {
-            Some(end) => {
-                self.len = end;
-                Ok(())
-            }
-            None => Err(Stopped),
-        }
+    fn take(&mut self, lines: &[u8]) -> Result<(), Stopped>
+        ensures took { is_ok result ≡ true → (xs : List ℕ) → Took self.old xs → Took self.new (xs ++ lines.now) }
+        ensures text { is_ok result ≡ true → take self.new.len self.new.room.now ≡ take self.old.len self.old.room.now ++ lines.now }
+    {
+        self.len = write_after(self.room, self.len, lines).ok_or(Stopped)?;
+        Ok(())
     }
 }

@@ -1,8 +1,9 @@
-// Steps and entries as plain numbers, in the layout that C gives them.
-ghost use Rattle.std.specs.Prelude.{◌≡◌, true, false, ◌==◌, nat_le};
-ghost use Rattle.export.specs.Wire.{good, kind_of, call_of, step_of, entry_of};
+// Steps and entries as plain numbers, not enums: the C interface needs the layout that C gives them.
+ghost use Rattle.std.specs.Prelude.{◌≡◌, false, ◌==◌};
+ghost use Rattle.export.specs.Wire.{good, call_of, step_of, entry_of};
 
 use memory::entry::{Entry, Step};
+use memory::forms::{AsEntry, AsStep};
 use sched::{Answer, Call, Kind};
 
 // What is asked for: 0 a tick; 1 to 3 make reserved (quota, period), fixed (rank), fair (weight); 4 end, 5 wake and 6 sleep
@@ -34,170 +35,109 @@ impl WireStep {
     {
         self.what <= 8
     }
+}
 
-    // The step that a good one asks for.
-    pub fn step(self) -> Step
-        ensures { result ≡ step_of self }
-    {
-        if self.what == 0 {
-            return Step::Tick;
-        }
-        Step::Calls(self.call())
-    }
+// The step that a good one asks for.
+#[tactic(auto, unfolding(crate::specs::Wire::step_of, crate::specs::Wire::call_of, crate::specs::Wire::kind_of))]
+impl From<WireStep> for Step {
+    ghost from_gives = { λ wire step. step ≡ step_of wire };
 
-    fn call(self) -> Call
-        ensures { result ≡ call_of self.what self.first self.second }
-    {
-        if self.what <= 3 {
-            return Call::Make(self.kind());
-        }
-        if self.what == 4 {
-            return Call::End(self.first);
-        }
-        if self.what == 5 {
-            return Call::Wake(self.first);
-        }
-        if self.what == 6 {
-            return Call::Sleep(self.first);
-        }
-        if self.what == 7 {
-            return Call::Lock(self.first, self.second);
-        }
-        Call::Unlock(self.first, self.second)
-    }
-
-    fn kind(self) -> Kind
-        ensures { result ≡ kind_of self.what self.first self.second }
-    {
-        if self.what == 1 {
-            return Kind::Reserved(self.first, self.second);
-        }
-        if self.what == 2 {
-            return Kind::Fixed(self.first);
-        }
-        Kind::Fair(self.first)
-    }
-
-    // The call, in numbers.
-    fn of(call: Call) -> WireStep
-        ensures says { call_of result.what result.first result.second ≡ call }
-        ensures calls { (result.what == 0) ≡ false }
-    {
-        match call {
-            Call::Make(kind) => WireStep::making(kind),
-            Call::End(i) => WireStep {
-                what: 4,
-                first: i,
-                second: 0,
-            },
-            Call::Wake(i) => WireStep {
-                what: 5,
-                first: i,
-                second: 0,
-            },
-            Call::Sleep(i) => WireStep {
-                what: 6,
-                first: i,
-                second: 0,
-            },
-            Call::Lock(i, m) => WireStep {
-                what: 7,
-                first: i,
-                second: m,
-            },
-            Call::Unlock(i, m) => WireStep {
-                what: 8,
-                first: i,
-                second: m,
-            },
-        }
-    }
-
-    fn making(kind: Kind) -> WireStep
-        ensures says { kind_of result.what result.first result.second ≡ kind }
-        ensures makes { nat_le result.what 3 ≡ true }
-        ensures calls { (result.what == 0) ≡ false }
-    {
-        match kind {
-            Kind::Reserved(quota, period) => WireStep {
-                what: 1,
-                first: quota,
-                second: period,
-            },
-            Kind::Fixed(rank) => WireStep {
-                what: 2,
-                first: rank,
-                second: 0,
-            },
-            Kind::Fair(weight) => WireStep {
-                what: 3,
-                first: weight,
-                second: 0,
-            },
+    fn from(wire: WireStep) -> Step {
+        let WireStep {
+            what,
+            first,
+            second,
+        } = wire;
+        match what {
+            0 => Step::Tick,
+            1 => Step::Calls(Call::Make(Kind::Reserved(first, second))),
+            2 => Step::Calls(Call::Make(Kind::Fixed(first))),
+            3 => Step::Calls(Call::Make(Kind::Fair(first))),
+            4 => Step::Calls(Call::End(first)),
+            5 => Step::Calls(Call::Wake(first)),
+            6 => Step::Calls(Call::Sleep(first)),
+            7 => Step::Calls(Call::Lock(first, second)),
+            _ => Step::Calls(Call::Unlock(first, second)),
         }
     }
 }
 
-impl WireEntry {
-    // The entry, in numbers.
-    pub fn new(entry: Entry) -> WireEntry
-        ensures { entry_of result ≡ entry }
-    {
+impl AsStep for WireStep {
+    ghost step = { step_of };
+
+    ghost says = { λ wire step is. is };
+}
+
+// The call, in numbers.
+#[tactic(auto, unfolding(crate::specs::Wire::call_of, crate::specs::Wire::kind_of))]
+impl From<Call> for WireStep {
+    ghost from_gives = { λ call wire. ((wire.what == 0) ≡ false) × (call_of wire.what wire.first wire.second ≡ call) };
+
+    fn from(call: Call) -> WireStep {
+        let (what, first, second) = match call {
+            Call::Make(Kind::Reserved(quota, period)) => (1, quota, period),
+            Call::Make(Kind::Fixed(rank)) => (2, rank, 0),
+            Call::Make(Kind::Fair(weight)) => (3, weight, 0),
+            Call::End(i) => (4, i, 0),
+            Call::Wake(i) => (5, i, 0),
+            Call::Sleep(i) => (6, i, 0),
+            Call::Lock(i, m) => (7, i, m),
+            Call::Unlock(i, m) => (8, i, m),
+        };
+        WireStep {
+            what,
+            first,
+            second,
+        }
+    }
+}
+
+// The entry, in numbers.
+#[tactic(auto, unfolding(crate::specs::Wire::entry_of))]
+impl From<Entry> for WireEntry {
+    ghost from_gives = { λ entry wire. entry_of wire ≡ entry };
+
+    fn from(entry: Entry) -> WireEntry {
         match entry {
-            Entry::Ran(whose, runs) => WireEntry::ran(whose, runs),
-            Entry::Called(call, answer) => WireEntry::called(WireStep::of(call), answer),
-        }
-    }
-
-    fn ran(whose: Option<u32>, runs: u32) -> WireEntry
-        ensures { entry_of result ≡ Entry.Ran whose runs }
-    {
-        match whose {
-            Some(i) => WireEntry {
+            Entry::Ran(whose, runs) => WireEntry {
                 what: 0,
-                first: i,
+                first: whose.unwrap_or(0),
                 second: runs,
-                answer: 1,
+                answer: u32::from(whose.is_some()),
                 value: 0,
             },
-            None => WireEntry {
-                what: 0,
-                first: 0,
-                second: runs,
-                answer: 0,
-                value: 0,
-            },
+            Entry::Called(call, answer) => WireEntry::called(call.into(), answer),
         }
     }
+}
 
+impl AsEntry for WireEntry {
+    ghost entry = { entry_of };
+
+    ghost says = { λ entry wire is. is };
+}
+
+#[tactic(auto, unfolding(crate::specs::Wire::entry_of, crate::specs::Wire::answer_of))]
+impl WireEntry {
     fn called(step: WireStep, a: Answer) -> WireEntry
         ensures { (step.what == 0) ≡ false → entry_of result ≡ Entry.Called (call_of step.what step.first step.second) a }
     {
-        let what = step.what;
-        let first = step.first;
-        let second = step.second;
-        match a {
-            Answer::Done => WireEntry {
-                what,
-                first,
-                second,
-                answer: 0,
-                value: 0,
-            },
-            Answer::Id(i) => WireEntry {
-                what,
-                first,
-                second,
-                answer: 1,
-                value: i,
-            },
-            Answer::No(n) => WireEntry {
-                what,
-                first,
-                second,
-                answer: 2,
-                value: n,
-            },
+        let WireStep {
+            what,
+            first,
+            second,
+        } = step;
+        let (answer, value) = match a {
+            Answer::Done => (0, 0),
+            Answer::Id(i) => (1, i),
+            Answer::No(n) => (2, n),
+        };
+        WireEntry {
+            what,
+            first,
+            second,
+            answer,
+            value,
         }
     }
 }

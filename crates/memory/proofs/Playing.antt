@@ -1,12 +1,12 @@
 -- A script on its way into a log: what is written so far, and one entry more.
 use Rattle.std.proofs.Common.{◌≡◌, ℕ, ◌+◌, ◌<◌, ◌≤◌, T, List, length, get_or, take, drop, set, sym, refl, ap, ◌∙◌, subst, arith, length-set}
-use Rattle.std.proofs.lemmas.List.{length-take-le, take_more_set, drop-set-lt, drop-drop}
+use Rattle.std.proofs.lemmas.List.{length-take-le, take_more_set, drop-set-lt, drop-drop, map-id}
 use Rattle.sched.specs.House.{empty}
 use Rattle.memory.specs.declared.entry.Entry.{Entry}
 use Rattle.memory.specs.declared.entry.Step.{Step}
 use Rattle.memory.specs.declared.entry.Step.TheVariants.{Tick}
 use Rattle.memory.specs.Run.{Answers, Follows, none, allowed, legal, outcome}
-use Rattle.memory.specs.Played.{Played}
+use Rattle.memory.specs.Played.{Played, PlayedAs}
 use Rattle.memory.proofs.Runs.{legal-push, legal-run, follows-push}
 
 pub record Playing (script : List Step) (before log : List Entry) (used : ℕ) : Type 0 where
@@ -46,3 +46,7 @@ playing-more script before log used e p more room answers fits =
 pub playing-done : (script : List Step) (before log : List Entry) (used : ℕ) → Playing script before log used → Played script before log used
 playing-done script before log used p =
     record { runs = legal-run empty (take used log) p.lawful; answers = p.follows; rest = p.rest; len = p.len }
+
+-- What stands for steps and entries may be these themselves.
+pub played-itself : (script : List Step) (before after : List Entry) (written : ℕ) → PlayedAs (λ s. s) (λ e. e) script before after written → Played script before after written
+played-itself script before after written p = simp map-id at p.played

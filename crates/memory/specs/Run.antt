@@ -4,7 +4,7 @@ use Rattle.std.specs.Prelude.{◌≡◌, ℕ, Bool, true, false, ◌&&◌, T, Li
 use Rattle.sched.specs.declared.Call.{Call}
 use Rattle.sched.specs.declared.Answer.{Answer}
 use Rattle.sched.specs.declared.Answer.TheVariants.{Done, Id, No}
-use Rattle.sched.specs.House.{House, calls, may_run, after}
+use Rattle.sched.specs.House.{House, empty, calls, may_run, after}
 use Rattle.memory.specs.declared.entry.Entry.{Entry}
 use Rattle.memory.specs.declared.entry.Entry.TheVariants.{Ran, Called}
 use Rattle.memory.specs.declared.entry.Step.{Step}
@@ -39,6 +39,10 @@ entered h (Called c a) = (calls c h).house
 unfoldable pub outcome : House → List Entry → House
 outcome h [] = h
 outcome h (e ∷ es) = outcome (entered h e) es
+
+-- these entries are a legal run from the empty house
+abbrev pub IsRun : List Entry → Type 0
+IsRun es = Run empty es (outcome empty es)
 
 -- two answers are the same, as a test
 unfoldable pub same_answer : Answer → Answer → Bool

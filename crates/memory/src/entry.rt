@@ -1,9 +1,12 @@
 // What a script asks for, and what a log holds.
-use sched::{Answer, Call};
+ghost use Rattle.std.specs.Prelude.{◌≡◌};
+
+use sched::{Answer, Call, Next};
 
 // A step of a script.
-#[derive(Clone, Copy)]
+#[derive(Clone, Copy, Default)]
 pub enum Step {
+    #[default]
     Tick,
     Calls(Call),
 }
@@ -13,4 +16,29 @@ pub enum Step {
 pub enum Entry {
     Ran(Option<u32>, u32),
     Called(Call, Answer),
+}
+
+// What stands where nothing was recorded.
+impl Default for Entry {
+    ghost use Rattle.memory.specs.Run.{blank};
+
+    ghost is_default = { λ e. e ≡ blank };
+
+    fn default() -> Entry {
+        Entry::Ran(None, 0)
+    }
+}
+
+// What comes next is the step.
+impl From<Step> for Next {
+    ghost use Rattle.memory.specs.Played.{next_of};
+
+    ghost from_gives = { λ step next. next ≡ next_of step };
+
+    fn from(step: Step) -> Next {
+        match step {
+            Step::Tick => Next::Tick,
+            Step::Calls(c) => Next::Calls(c),
+        }
+    }
 }

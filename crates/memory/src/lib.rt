@@ -2,6 +2,7 @@
 #![tactic(auto)]
 
 pub mod entry;
+pub mod forms;
 pub mod lent;
 pub mod play;
 pub mod recorder;

@@ -1,15 +1,16 @@
 // Making a recorder over lent slices; what it hands out and writes, in terms of the slices.
-ghost use Rattle.std.specs.Prelude.{◌≡◌, ◌<◌};
+ghost use Rattle.std.specs.Prelude.{◌≡◌, ◌<◌, length, map};
 ghost use Rattle.memory.specs.Recorded.{room_in, Wrote};
 ghost use Rattle.memory.specs.Played.{Asks};
 
 use crate::entry::{Entry, Step};
+use crate::forms::{AsEntry, AsStep};
 use crate::lent::LentRecorder;
-use sched::{Answer, Call, Next};
+use sched::Next;
 
-impl<'a> LentRecorder<'a> {
+impl<'a, S: AsStep, E: AsEntry> LentRecorder<'a, S, E> {
     // To play this script into this log, from its start.
-    pub fn new(script: &'a [Step], log: &'a mut [Entry]) -> LentRecorder<'a>
+    pub fn new(script: &'a [S], log: &'a mut [E]) -> LentRecorder<'a, S, E>
         ensures script { result.script.now ≡ script.now }
         ensures log { result.log.now ≡ log.old }
         ensures used { result.used ≡ 0 }
@@ -32,40 +33,21 @@ impl<'a> LentRecorder<'a> {
     // The script's next step, if there is one and room for its entry.
     pub fn next(&mut self) -> Next
         ensures same { self.new ≡ self.old }
-        ensures asks { Asks self.old.script.now self.old.log.now self.old.used result }
+        ensures asks { Asks (map S.step self.old.script.now) (length self.old.log.now) self.old.used result }
     {
         if self.used >= self.script.len() || self.used >= self.log.len() {
             return Next::Over;
         }
-        let step = self.script[self.used];
-        match step {
-            Step::Tick => Next::Tick,
-            Step::Calls(c) => Next::Calls(c),
-        }
-    }
-
-    // A call and its answer.
-    pub(crate) fn told(&mut self, c: Call, a: Answer)
-        requires { 0 < room_in self.old }
-        ensures { Wrote self.old self.new (Entry.Called c a) }
-    {
-        self.record(Entry::Called(c, a));
-    }
-
-    // Whose a tick was, and who ran in it.
-    pub(crate) fn runs(&mut self, whose: Option<u32>, runs: u32)
-        requires { 0 < room_in self.old }
-        ensures { Wrote self.old self.new (Entry.Ran whose runs) }
-    {
-        self.record(Entry::Ran(whose, runs));
+        let step: Step = self.script[self.used].into();
+        step.into()
     }
 
     // One more entry.
-    fn record(&mut self, entry: Entry)
+    pub(crate) fn record(&mut self, entry: Entry)
         requires { 0 < room_in self.old }
-        ensures { Wrote self.old self.new entry }
+        ensures { Wrote E.entry self.old self.new entry }
     {
-        self.log[self.used] = entry;
+        self.log[self.used] = entry.into();
         self.used += 1;
     }
 }

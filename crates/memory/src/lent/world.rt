@@ -1,11 +1,13 @@
 // The lent recorder as a world: the house is what was written comes to, and it may go on while there is room.
 ghost use Rattle.memory.specs.Recorded.{house_of, room_in};
 
+use crate::entry::Entry;
+use crate::forms::{AsEntry, AsStep};
 use crate::lent::LentRecorder;
 use sched::{Answer, Call, Next, World};
 
-impl<'a> World for LentRecorder<'a> {
-    ghost house = { house_of };
+impl<'a, S: AsStep, E: AsEntry> World for LentRecorder<'a, S, E> {
+    ghost house = { house_of E.entry };
 
     ghost left = { room_in };
 
@@ -14,10 +16,10 @@ impl<'a> World for LentRecorder<'a> {
     }
 
     fn told(&mut self, c: Call, a: Answer) {
-        LentRecorder::told(self, c, a);
+        self.record(Entry::Called(c, a));
     }
 
     fn runs(&mut self, whose: Option<u32>, runs: u32) {
-        LentRecorder::runs(self, whose, runs);
+        self.record(Entry::Ran(whose, runs));
     }
 }

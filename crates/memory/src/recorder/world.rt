@@ -11,7 +11,7 @@ use sched::{Answer, Call, Next, World};
 impl World for Recorder {
     ghost house = { λ w. outcome empty (entries_of w) };
 
-    ghost left = { λ w. length w.log - w.used };
+    ghost left = { λ w. 1024 - length (entries_of w) };
 
     fn next(&mut self) -> Next {
         self.asks()

@@ -8,7 +8,7 @@ use Rattle.memory.proofs.play.recorded.Goals as goal
 
 pub hours-requires : goal.hours-requires
 unfolding outcome
-hours-requires c = record { begins = ap (outcome empty) c.in-Some.ensures.1 }
+hours-requires c = record { begins = ap (outcome empty) c.in_ok-w.ensures.1 }
 
-pub returns-in-Some : goal.returns-in-Some
-returns-in-Some c = legal-run empty (entries_of c.hours.new.w) c.hours.new.w.lawful
+pub returns : goal.returns
+returns c = legal-run empty (entries_of c.hours.new.w) c.hours.new.w.lawful

@@ -7,7 +7,7 @@ use Rattle.memory.proofs.Written.{written-house, written-room}
 use Rattle.memory.proofs.lent.world.LentRecorderWorld.runs.Goals as goal
 
 pub returns : goal.returns
-returns c = (
-  written-house c.args.self.now c.runs.new.self (Ran c.args.whose c.args.runs) c.runs.ensures c.requires.0 ∙ ran-entered (house_of c.args.self.now) c.args.whose c.args.runs,
-  written-room c.args.self.now c.runs.new.self (Ran c.args.whose c.args.runs) c.runs.ensures c.requires.0,
+returns g c = (
+  written-house g.E.AsEntry.entry c.args.self.now c.record.new.self (Ran c.args.whose c.args.runs) c.record.ensures c.requires.0 ∙ ran-entered (house_of g.E.AsEntry.entry c.args.self.now) c.args.whose c.args.runs,
+  written-room g.E.AsEntry.entry c.args.self.now c.record.new.self (Ran c.args.whose c.args.runs) c.record.ensures c.requires.0,
 )

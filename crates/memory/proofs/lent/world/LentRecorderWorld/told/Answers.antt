@@ -7,7 +7,7 @@ use Rattle.memory.proofs.Written.{written-house, written-room}
 use Rattle.memory.proofs.lent.world.LentRecorderWorld.told.Goals as goal
 
 pub returns : goal.returns
-returns c = (
-  written-house c.args.self.now c.told.new.self (Called c.args.c c.args.a) c.told.ensures c.requires.0 ∙ told-entered (house_of c.args.self.now) c.args.c c.args.a,
-  written-room c.args.self.now c.told.new.self (Called c.args.c c.args.a) c.told.ensures c.requires.0,
+returns g c = (
+  written-house g.E.AsEntry.entry c.args.self.now c.record.new.self (Called c.args.c c.args.a) c.record.ensures c.requires.0 ∙ told-entered (house_of g.E.AsEntry.entry c.args.self.now) c.args.c c.args.a,
+  written-room g.E.AsEntry.entry c.args.self.now c.record.new.self (Called c.args.c c.args.a) c.record.ensures c.requires.0,
 )
