@@ -37,8 +37,8 @@ fn main(rt: HostRuntime) -> anyhow::Result<()> {
 }
 
 fn play_all(rt: &HostRuntime) -> anyhow::Result<()> {
-    for k in 0..3usize {
-        compare(rt, &SCENES[k])?;
+    for scene in &SCENES {
+        compare(rt, scene)?;
     }
     Ok(())
 }
@@ -70,9 +70,7 @@ fn read_into(rt: &HostRuntime, name: &str, room: &mut Room) -> anyhow::Result<()
         if n == 0 {
             break;
         }
-        if !room.push(&buffer[0..n]) {
-            return Err(anyhow!("the text is too long"));
-        }
+        room.push(&buffer[..n])?;
     }
     Ok(())
 }
