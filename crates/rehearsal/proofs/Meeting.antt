@@ -1,5 +1,5 @@
 -- What the next part, or that there is none, settles.
-use Rattle.std.proofs.Common.{◌≡◌, ℕ, suc, ◌+◌, ◌-◌, ◌<◌, ◌≤◌, Bool, true, false, cond, not, ◌&&◌, List, [], ◌∷◌, is_some, is_none, Some, None, Option, MatchOption, sym, refl, ap, ◌∙◌, arith, Bor}
+use Rattle.std.proofs.Common.{◌≡◌, ℕ, suc, ◌+◌, ◌-◌, ◌<◌, ◌≤◌, Bool, true, false, cond, not, ◌&&◌, List, [], ◌∷◌, is_some, Some, None, Option, MatchOption, sym, refl, arith, Bor}
 use Rattle.rehearsal.specs.Cuts.{cut}
 use Rattle.rehearsal.specs.Expected.{is_tick, ticks_of, after_ticks, word_meets, words_meet, following, more, first_apart, Found}
 

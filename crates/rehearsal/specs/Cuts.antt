@@ -1,6 +1,6 @@
 -- A text in parts.
 -- Assumes nothing.
-use Rattle.std.specs.Prelude.{◌≡◌, ℕ, cond, List, [], ◌∷◌, Some, None, Option, ◌==◌}
+use Rattle.std.specs.Prelude.{ℕ, cond, List, [], ◌∷◌, Some, None, Option, ◌==◌}
 use Rattle.std.specs.Borrow.{Bor}
 use Rattle.script.specs.Grammar.{on_first}
 use Rattle.rehearsal.specs.declared.parts.Parts.{Parts}

@@ -1,5 +1,5 @@
 -- The next line is a tick, or isn't, or there is none.
-use Rattle.std.proofs.Common.{◌≡◌, rules, ◌-◌, ◌+◌, cond, None, sym, ap, ◌∙◌, arith}
+use Rattle.std.proofs.Common.{rules, ◌-◌, ◌+◌, cond, None, sym, ap, ◌∙◌, arith}
 use Rattle.rehearsal.specs.Cuts.{left}
 use Rattle.rehearsal.specs.Expected.{after_ticks}
 use Rattle.rehearsal.proofs.Meeting.{next-tick, all-ticks}
