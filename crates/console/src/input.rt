@@ -1,7 +1,6 @@
 // Input, piece by piece.
-ghost use Rattle.std.specs.Prelude.{◌≡◌, List, ℕ, IfSome, OnOk};
-ghost use Rattle.std.specs.List.{concat};
-ghost use Rattle.console.specs.Pieces.{HandedOn};
+ghost use Rattle.std.specs.Prelude.{IfSome, OnOk};
+ghost use Rattle.console.specs.Pieces.{TakenWhole};
 
 use anyhow::bail;
 use std::io::Read;
@@ -13,7 +12,7 @@ pub fn each_piece<R: Read, F: FnMut(&[u8]) -> anyhow::Result<()>>(
     mut take: F,
 ) -> anyhow::Result<()>
     requires { F.IsAlwaysCallable take }
-    ensures { OnOk result (IfSome (R.remaining input.old) (λ xs. (pieces : List (List ℕ)) × (last : F) × (concat pieces ≡ xs) × HandedOn F.FnMut take pieces last)) }
+    ensures { OnOk result (IfSome (R.remaining input.old) (TakenWhole F.FnMut take)) }
 {
     let mut buffer = [0u8; 65536];
     for _k in 0..u64::MAX {

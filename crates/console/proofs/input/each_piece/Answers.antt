@@ -1,10 +1,7 @@
 -- One piece more was read, and taken.
-use Rattle.std.proofs.Common.{rules, of_calls, ◌≡◌, List, ℕ, refl, [], ◌∷◌, ◌++◌, take, Ok}
+use Rattle.std.proofs.Common.{rules, of_calls, refl, [], ◌∷◌, ◌++◌, take, Ok}
 use Rattle.std.specs.Fn.{CalledAt}
-use Rattle.std.specs.Io.KnownBytes.{Consumes}
-use Rattle.std.specs.List.{concat}
 use Rattle.std.proofs.lemmas.Fn.{FoldsTo-push}
-use Rattle.console.specs.Pieces.{HandedOn}
 use Rattle.console.proofs.Reading.{one-more}
 use Rattle.console.proofs.input.each_piece.Goals as goal
 
