@@ -1,138 +1,65 @@
 // Plays each script of the data folder from an empty scheduler, and compares what it writes with what the rules say.
 #![tactic(auto)]
 
-mod expectation;
-mod transcript;
+use rehearsal::scene::Scene;
 
-use anyhow::anyhow;
-use expectation::first_difference;
-use player::Player;
-use std::fs::File;
-use std::io::Read;
-use transcript::Room;
+// First what is answered, and what is turned away; then whose the ticks are; last what is no command.
+static SCENES: [Scene; 10] = [
+    Scene {
+        title: "refusals of bad kinds",
+        script: "bad-kinds.script",
+        expected: "bad-kinds.expected",
+    },
+    Scene {
+        title: "a share that fits and one that doesn't",
+        script: "shares.script",
+        expected: "shares.expected",
+    },
+    Scene {
+        title: "locking twice",
+        script: "locking-twice.script",
+        expected: "locking-twice.expected",
+    },
+    Scene {
+        title: "a ring of two",
+        script: "ring-of-two.script",
+        expected: "ring-of-two.expected",
+    },
+    Scene {
+        title: "reserved beside fixed",
+        script: "reserved-and-fixed.script",
+        expected: "reserved-and-fixed.expected",
+    },
+    Scene {
+        title: "fair by weight",
+        script: "fair-by-weight.script",
+        expected: "fair-by-weight.expected",
+    },
+    Scene {
+        title: "fair after a long sleep",
+        script: "fair-after-sleep.script",
+        expected: "fair-after-sleep.expected",
+    },
+    Scene {
+        title: "lending to whoever has the lock",
+        script: "lending.script",
+        expected: "lending.expected",
+    },
+    Scene {
+        title: "a share kept after its task ended",
+        script: "kept-share.script",
+        expected: "kept-share.expected",
+    },
+    Scene {
+        title: "lines that are no commands",
+        script: "malformed.script",
+        expected: "malformed.expected",
+    },
+];
 
 fn main(rt: HostRuntime) -> anyhow::Result<()> {
-    play_all(&rt)
-}
-
-fn play_all(rt: &HostRuntime) -> anyhow::Result<()> {
-    calls(rt)?;
-    ticks(rt)?;
-    example(
-        rt,
-        "lines that are no commands",
-        "malformed.script",
-        "malformed.expected",
-    )
-}
-
-// What is answered, and what is turned away.
-fn calls(rt: &HostRuntime) -> anyhow::Result<()> {
-    example(
-        rt,
-        "refusals of bad kinds",
-        "bad-kinds.script",
-        "bad-kinds.expected",
-    )?;
-    example(
-        rt,
-        "a share that fits and one that doesn't",
-        "shares.script",
-        "shares.expected",
-    )?;
-    example(
-        rt,
-        "locking twice",
-        "locking-twice.script",
-        "locking-twice.expected",
-    )?;
-    example(
-        rt,
-        "a ring of two",
-        "ring-of-two.script",
-        "ring-of-two.expected",
-    )
-}
-
-// Whose the ticks are.
-fn ticks(rt: &HostRuntime) -> anyhow::Result<()> {
-    example(
-        rt,
-        "reserved beside fixed",
-        "reserved-and-fixed.script",
-        "reserved-and-fixed.expected",
-    )?;
-    example(
-        rt,
-        "fair by weight",
-        "fair-by-weight.script",
-        "fair-by-weight.expected",
-    )?;
-    example(
-        rt,
-        "fair after a long sleep",
-        "fair-after-sleep.script",
-        "fair-after-sleep.expected",
-    )?;
-    example(
-        rt,
-        "lending to whoever has the lock",
-        "lending.script",
-        "lending.expected",
-    )?;
-    example(
-        rt,
-        "a share kept after its task ended",
-        "kept-share.script",
-        "kept-share.expected",
-    )
-}
-
-// Says whether the script of this name is answered as expected.
-fn example(rt: &HostRuntime, title: &str, script: &str, expected: &str) -> anyhow::Result<()> {
-    let mut room = Room::new();
-    play(rt, script, &mut room)?;
-    let mut wanted = Room::new();
-    read_into(rt, expected, &mut wanted)?;
-    match first_difference(wanted.text()?, room.text()?) {
-        None => println!(rt; "{title}: as the rules say")?,
-        Some(line) => println!(rt;
-            "{title}: other than the rules say, at line {line} of {expected}"
-        )?,
-    }
-    Ok(())
-}
-
-fn play(rt: &HostRuntime, name: &str, room: &mut Room) -> anyhow::Result<()> {
-    let mut file = File::open(rt, name)?;
-    let mut buffer = [0u8; 4096];
-    let mut player = Player::new();
-    for _k in 0..u64::MAX {
-        let n = file.read(&mut buffer)?;
-        if n == 0 {
-            break;
-        }
-        if player.feed(&buffer[0..n], room).is_err() {
-            return Err(anyhow!("the transcript is too long"));
-        }
-    }
-    if player.finish(room).is_err() {
-        return Err(anyhow!("the transcript is too long"));
-    }
-    Ok(())
-}
-
-fn read_into(rt: &HostRuntime, name: &str, room: &mut Room) -> anyhow::Result<()> {
-    let mut file = File::open(rt, name)?;
-    let mut buffer = [0u8; 4096];
-    for _k in 0..u64::MAX {
-        let n = file.read(&mut buffer)?;
-        if n == 0 {
-            break;
-        }
-        if !room.push(&buffer[0..n]) {
-            return Err(anyhow!("the expected text is too long"));
-        }
+    for scene in &SCENES {
+        scene.rehearse(&rt)?;
     }
     Ok(())
 }

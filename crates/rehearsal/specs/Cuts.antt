@@ -1,6 +1,6 @@
 -- A text in parts.
 -- Assumes nothing.
-use Rattle.std.specs.Prelude.{◌≡◌, ℕ, cond, List, [], ◌∷◌, Some, None, Option, MatchOption, ◌==◌}
+use Rattle.std.specs.Prelude.{ℕ, cond, List, [], ◌∷◌, Some, None, Option, ◌==◌}
 use Rattle.std.specs.Borrow.{Bor}
 use Rattle.script.specs.Grammar.{on_first}
 use Rattle.rehearsal.specs.declared.parts.Parts.{Parts}
@@ -17,7 +17,3 @@ left_of by (Some t) = cut by t.now
 
 abbrev pub left : Parts → List (List ℕ)
 left p = left_of p.by p.rest
-
--- the next of these is given out, and those are left
-abbrev pub Gives : List (List ℕ) → Option (Bor (List ℕ)) → List (List ℕ) → Type 0
-Gives xs r ys = MatchOption r ((xs ≡ []) × (ys ≡ [])) (λ p. xs ≡ p.now ∷ ys)

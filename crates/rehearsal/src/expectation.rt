@@ -1,7 +1,6 @@
 // What a script is to be answered, in text: a line stands for itself, but for two forms. `ticks 400` stands for so many
 // lines that each tell of a tick, whichever; a word `100~3` stands for a number that is at most 3 off 100.
 ghost use Rattle.std.specs.Prelude.{◌≡◌};
-ghost use Rattle.std.specs.Str.{bytes_eq};
 ghost use Rattle.script.specs.Grammar.{number_of};
 ghost use Rattle.rehearsal.specs.Cuts.{cut, left};
 ghost use Rattle.rehearsal.specs.Expected.{Found, after_ticks, first_apart, following, is_near, is_tick, ticks_of, word_meets, words_meet};
@@ -14,19 +13,15 @@ use script::word::Word;
 pub fn first_difference(expected: &[u8], transcript: &[u8]) -> Option<usize>
     ensures { result ≡ first_apart 1 (cut 10 expected.now) (cut 10 transcript.now) }
 {
-    let mut wanted = Parts::new(expected, b'\n');
     let mut lines = Parts::new(transcript, b'\n');
     let mut number: usize = 1;
-    while let Some(want) = wanted.next() {
+    for want in Parts::new(expected, b'\n') {
         if !met(want, &mut lines) {
             return Some(number);
         }
         number = number.saturating_add(1);
     }
-    match lines.next() {
-        Some(_) => Some(number),
-        None => None,
-    }
+    lines.next().map(|_| number)
 }
 
 // Whether the next lines are what this one stands for.
@@ -35,24 +30,16 @@ fn met(want: &[u8], lines: &mut Parts<'_>) -> bool
 {
     match tick_lines(want) {
         Some(many) => are_ticks(many, lines),
-        None => match lines.next() {
-            Some(line) => meets(want, line),
-            None => false,
-        },
+        None => lines.next().is_some_and(|line| meets(want, line)),
     }
 }
 
 fn are_ticks(many: u32, lines: &mut Parts<'_>) -> bool
     ensures { Found result (after_ticks many (left lines.old)) (left lines.new) }
 {
-    for k in 0..many {
-        match lines.next() {
-            Some(line) => {
-                if !is_tick(line) {
-                    return false;
-                }
-            }
-            None => return false,
+    for _k in 0..many {
+        if !lines.next().is_some_and(is_tick) {
+            return false;
         }
     }
     true
@@ -63,18 +50,12 @@ fn tick_lines(want: &[u8]) -> Option<u32>
     ensures { result ≡ ticks_of (cut 32 want.now) }
 {
     let mut words = Parts::new(want, b' ');
-    match words.next() {
-        Some(word) => match words.next() {
-            Some(many) => {
-                if same(word, b"ticks") {
-                    number(many)
-                } else {
-                    None
-                }
-            }
-            None => None,
-        },
-        None => None,
+    let word = words.next()?;
+    let many = words.next()?;
+    if word == b"ticks".as_slice() {
+        number(many)
+    } else {
+        None
     }
 }
 
@@ -82,27 +63,18 @@ fn tick_lines(want: &[u8]) -> Option<u32>
 fn is_tick(line: &[u8]) -> bool
     ensures { result ≡ is_tick line.now }
 {
-    let mut words = Parts::new(line, b' ');
-    match words.next() {
-        Some(word) => same(word, b"-") || number(word).is_some(),
-        None => false,
-    }
+    let word = Parts::new(line, b' ').next();
+    word.is_some_and(|word| word == b"-".as_slice() || number(word).is_some())
 }
 
 // Word by word, within the tolerance where there is one.
 fn meets(want: &[u8], line: &[u8]) -> bool
     ensures { result ≡ words_meet (cut 32 want.now) (cut 32 line.now) }
 {
-    let mut wanted = Parts::new(want, b' ');
     let mut words = Parts::new(line, b' ');
-    while let Some(word) = wanted.next() {
-        match words.next() {
-            Some(got) => {
-                if !word_meets(word, got) {
-                    return false;
-                }
-            }
-            None => return false,
+    for word in Parts::new(want, b' ') {
+        if !words.next().is_some_and(|got| word_meets(word, got)) {
+            return false;
         }
     }
     words.next().is_none()
@@ -112,12 +84,9 @@ fn word_meets(want: &[u8], got: &[u8]) -> bool
     ensures { result ≡ word_meets want.now got.now }
 {
     let mut numbers = Parts::new(want, b'~');
-    match numbers.next() {
-        Some(middle) => match numbers.next() {
-            Some(off) => is_near(number(got), number(middle), number(off)),
-            None => same(want, got),
-        },
-        None => same(want, got),
+    match (numbers.next(), numbers.next()) {
+        (Some(middle), Some(off)) => is_near(number(got), number(middle), number(off)),
+        _ => want == got,
     }
 }
 
@@ -125,16 +94,10 @@ fn word_meets(want: &[u8], got: &[u8]) -> bool
 fn is_near(n: Option<u32>, middle: Option<u32>, off: Option<u32>) -> bool
     ensures { result ≡ is_near n middle off }
 {
-    match n {
-        Some(n) => match middle {
-            Some(m) => match off {
-                Some(d) => n.abs_diff(m) <= d,
-                None => false,
-            },
-            None => false,
-        },
-        None => false,
-    }
+    let (Some(n), Some(middle), Some(off)) = (n, middle, off) else {
+        return false;
+    };
+    n.abs_diff(middle) <= off
 }
 
 // The number that it is, if it is one below 2^32.
@@ -142,14 +105,8 @@ fn number(text: &[u8]) -> Option<u32>
     ensures { result ≡ number_of text.now }
 {
     let mut word = Word::new();
-    for k in 0..text.len() {
-        word.push(text[k]);
+    for byte in text {
+        word.push(*byte);
     }
     word.number()
-}
-
-fn same(one: &[u8], other: &[u8]) -> bool
-    ensures { result ≡ bytes_eq one.now other.now }
-{
-    one == other
 }

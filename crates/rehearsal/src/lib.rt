@@ -4,3 +4,4 @@
 pub mod expectation;
 mod parts;
 pub mod room;
+pub mod scene;

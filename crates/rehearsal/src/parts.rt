@@ -1,6 +1,7 @@
 // A text in parts: its lines, the words of a line, the numbers of a word.
-ghost use Rattle.std.specs.Prelude.{◌≡◌, ℕ, ◌<◌, ◌≤◌, ◌∷◌, length, ◌≢◌, slice_index};
-ghost use Rattle.rehearsal.specs.Cuts.{cut, left_of, left, Gives};
+ghost use Rattle.std.specs.Prelude.{◌≡◌, ◌∷◌};
+ghost use Rattle.std.specs.Iterator.{YieldsFirstRef, item_count};
+ghost use Rattle.rehearsal.specs.Cuts.{cut, left_of, left};
 
 // Gives out one part after another: what lies between the bytes that part it.
 #[derive(Drop)]
@@ -19,12 +20,17 @@ impl<'a> Parts<'a> {
             by,
         }
     }
+}
 
-    pub fn next(&mut self) -> Option<&'a [u8]>
-        ensures { Gives (left self.old) result (left self.new) }
-    {
-        let text = self.rest?;
-        let (part, rest) = split(text, self.by);
+impl<'a> Iterator for Parts<'a> {
+    type Item = &'a [u8];
+
+    ghost next_gives = { YieldsFirstRef left };
+
+    ghost remaining = { item_count left };
+
+    fn next(&mut self) -> Option<&'a [u8]> {
+        let (part, rest) = split(self.rest?, self.by);
         self.rest = rest;
         Some(part)
     }
@@ -34,23 +40,8 @@ impl<'a> Parts<'a> {
 fn split(text: &[u8], by: u8) -> (&[u8], Option<&[u8]>)
     ensures { cut by text.now ≡ result.0.now ∷ left_of by result.1 }
 {
-    let end = first(text, by);
-    if end >= text.len() {
-        return (text, None);
+    match text.iter().position(|byte| *byte == by) {
+        Some(end) => (&text[..end], Some(&text[end + 1..])),
+        None => (text, None),
     }
-    (&text[..end], Some(&text[end + 1..]))
-}
-
-// Where this byte first stands, or the text's length.
-fn first(text: &[u8], byte: u8) -> usize
-    ensures within { result ≤ length text.now }
-    ensures before { (k : ℕ) → k < result → slice_index text.now k ≢ byte }
-    ensures here { result < length text.now → slice_index text.now result ≡ byte }
-{
-    for k in 0..text.len() {
-        if text[k] == byte {
-            return k;
-        }
-    }
-    text.len()
 }

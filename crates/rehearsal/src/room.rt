@@ -1,57 +1,57 @@
 // Text in memory: a script, what is written for it, what is expected.
-ghost use Rattle.std.specs.Prelude.{◌≡◌, ◌+◌, ◌≤◌, true, false, ◌++◌, length, take};
+ghost use Rattle.std.specs.Prelude.{◌≡◌, ◌+◌, ◌≤◌, ◌↔◌, [], ◌++◌, length, IsOk, OnOk, OnErr};
 
+use arrayvec::ArrayVec;
 use script::sink::{Sink, Stopped};
+use std::error::Error;
+use std::fmt;
 
 #[derive(Drop)]
 pub struct Room {
-    bytes: [u8; 65536],
-    len: usize,
-    ghost within: { len ≤ 65536 },
+    text: ArrayVec<u8, 65536>,
 }
+
+// There is no room for it.
+#[derive(Clone, Copy, Debug)]
+pub struct Full;
 
 impl Room {
     pub fn new() -> Room
-        ensures { result.len ≡ 0 }
+        ensures { result.text.items ≡ [] }
     {
         Room {
-            bytes: [0; 65536],
-            len: 0,
+            text: ArrayVec::new(),
         }
     }
 
-    // These bytes too, or none of them and false if there is no room.
-    pub fn push(&mut self, more: &[u8]) -> bool
-        ensures taken { result ≡ true → take self.new.len self.new.bytes ≡ take self.old.len self.old.bytes ++ more.now }
-        ensures refused { result ≡ false → self.new ≡ self.old }
-        ensures fits { self.old.len + length more.now ≤ 65536 → result ≡ true }
+    // These bytes too, or none of them if there is no room for all.
+    pub fn push(&mut self, more: &[u8]) -> Result<(), Full>
+        ensures taken { OnOk result (self.new.text.items ≡ self.old.text.items ++ more.now) }
+        ensures refused { OnErr result (self.new ≡ self.old) }
+        ensures fits { IsOk result ↔ (length self.old.text.items + length more.now ≤ 65536) }
     {
-        if more.len() > 65536 - self.len {
-            return false;
-        }
-        for k in 0..more.len() {
-            self.bytes[self.len] = more[k];
-            self.len += 1;
-        }
-        true
+        self.text.try_extend_from_slice(more).map_err(|_| Full)
     }
 
     pub fn bytes(&self) -> &[u8]
-        ensures { result.now ≡ take self.now.len self.now.bytes }
+        ensures { result.now ≡ self.now.text.items }
     {
-        let bytes = &self.bytes;
-        &bytes[0..self.len]
+        self.text.as_slice()
     }
 }
 
 impl Sink for Room {
-    ghost took = { λ r xs. take r.len r.bytes ≡ xs };
+    ghost took = { λ r xs. r.text.items ≡ xs };
 
     fn take(&mut self, lines: &[u8]) -> Result<(), Stopped> {
-        if self.push(lines) {
-            Ok(())
-        } else {
-            Err(Stopped)
-        }
+        self.push(lines).map_err(|_| Stopped)
     }
 }
+
+impl fmt::Display for Full {
+    fn fmt<W: fmt::Write>(&self, f: &mut fmt::Formatter<W>) -> fmt::Result {
+        f.write_str("the text is too long")
+    }
+}
+
+impl Error for Full {}

@@ -5,4 +5,4 @@ use Rattle.rehearsal.specs.Expected.{after_ticks}
 use Rattle.rehearsal.proofs.expectation.are_ticks.Given as goal
 
 abbrev pub invariant-loop-k : goal.invariant-loop-k
-invariant-loop-k l = after_ticks (l.many - l.k) (left l.lines) ≡ after_ticks l.many (left l.initial.lines)
+invariant-loop-k l = after_ticks (l.many - l._k) (left l.lines) ≡ after_ticks l.many (left l.initial.lines)

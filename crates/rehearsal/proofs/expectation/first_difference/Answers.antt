@@ -1,33 +1,33 @@
 -- The next line is met, or isn't, or there is none.
-use Rattle.std.proofs.Common.{◌∙◌}
+use Rattle.std.proofs.Common.{rules, ◌∙◌}
 use Rattle.rehearsal.specs.Cuts.{left}
-use Rattle.rehearsal.proofs.Meeting.{lines_more, lines-apart, lines_left, lines-over}
+use Rattle.rehearsal.proofs.Meeting.{lines_more, lines-apart, no_lines_left}
 use Rattle.rehearsal.proofs.expectation.first_difference.Goals as goal
 
 pub returns-then-not-met : goal.returns-then-not-met
 returns-then-not-met c =
-    lines-apart c.loop-want.number (left c.loop-want.wanted) (left c.loop-want.lines) (left c.next.new.self) c.in-Some.want.now c.in-Some.ensures c.if-not-met.ensures
-    ∙ c.loop-want.invariant
+    lines-apart c.loop-want.number (left c.loop-want.want-iterator) (left c.loop-want.lines) (left c.next.new.self) c.in-Some.want.now c.in-Some.ensures.steps c.if-not-met.ensures
+    ∙ c.loop-want.invariant.2
 
 pub loop-want-preserved : goal.loop-want-preserved
-loop-want-preserved c =
-    lines_more
-    c.loop-want.number
-    c.saturating_add-number.result
-    (left c.loop-want.wanted)
-    (left c.loop-want.lines)
-    (left c.next.new.self)
-    (left c.met.new.lines)
-    c.in-Some.want.now
-    c.in-Some.ensures
-    c.if-not-met.ensures
-    c.saturating_add-number.ensures
-    ∙ c.loop-want.invariant
+loop-want-preserved c = (
+  tt,
+  tt,
+  lines_more
+      c.loop-want.number
+      c.saturating_add-number.result
+      (left c.loop-want.want-iterator)
+      (left c.loop-want.lines)
+      (left c.next.new.self)
+      (left c.met.new.lines)
+      c.in-Some.want.now
+      c.in-Some.ensures.steps
+      c.if-not-met.ensures
+      c.saturating_add-number.ensures
+      ∙ c.loop-want.invariant.2,
+)
 
-pub returns-in-Some-next : goal.returns-in-Some-next
-returns-in-Some-next c =
-    lines_left c.loop-want.number (left c.loop-want.wanted) (left c.loop-want.lines) (left c.next-2.new.self) c.in-Some-next.field-0.now c.in_default.ensures.0 c.in-Some-next.ensures
-    ∙ c.loop-want.invariant
-
-pub returns-in-None : goal.returns-in-None
-returns-in-None c = lines-over c.loop-want.number (left c.loop-want.wanted) (left c.loop-want.lines) c.in_default.ensures.0 c.in-None.ensures.0 ∙ c.loop-want.invariant
+pub returns : goal.returns
+returns c =
+    no_lines_left c.loop-want.number (left c.loop-want.want-iterator) (left c.loop-want.lines) (left c.next-2.new.self) _ c.map.result _ c.in-None.ensures.steps.0 c.next-2.ensures.steps c.map.ensures.cases (λ p q. search rules)
+    ∙ c.loop-want.invariant.2

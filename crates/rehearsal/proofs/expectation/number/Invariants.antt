@@ -3,5 +3,5 @@ use Rattle.std.proofs.Common.{take}
 use Rattle.script.specs.Taken.{WordTaken}
 use Rattle.rehearsal.proofs.expectation.number.Given as goal
 
-abbrev pub invariant-loop-k : goal.invariant-loop-k
-invariant-loop-k l = WordTaken l.word (take l.k l.text)
+abbrev pub invariant-loop-byte : goal.invariant-loop-byte
+invariant-loop-byte l = WordTaken l.word (take l.byte-index l.text)

@@ -1,6 +1,0 @@
--- It wasn't met so far.
-use Rattle.std.proofs.Common.{◌≡◌, ℕ, ◌<◌, get_or}
-use Rattle.rehearsal.proofs.parts.first.Given as goal
-
-abbrev pub invariant-loop-k : goal.invariant-loop-k
-invariant-loop-k l = (j : ℕ) → j < l.k → get_or l.text j 0 ≡ l.byte → ⊥
