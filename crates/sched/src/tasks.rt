@@ -99,10 +99,9 @@ impl Tasks {
     pub fn free_place(&self) -> Option<TaskId>
         ensures { MatchOption result (some' 64 (λ i. is_nobody (place_at self.now.slots i)) ≡ false) (λ t. (some' 64 (λ i. is_nobody (place_at self.now.slots i)) ≡ true) × (t.index ≡ first 64 (λ i. is_nobody (place_at self.now.slots i)))) }
     {
-        for i in 0..64usize {
-            let slot = self.slots[i];
-            if slot.is_free() {
-                return TaskId::new(i as u32);
+        for i in TaskId::all() {
+            if self.slot(i).is_free() {
+                return Some(i);
             }
         }
         None
