@@ -1,5 +1,5 @@
 -- The place at which the search stops is the first that is free.
-use Rattle.std.proofs.Common.{ℕ, ◌<◌, sym, ap, ◌∙◌, arith}
+use Rattle.std.proofs.Common.{sym, ap, ◌∙◌, arith}
 use Rattle.sched.specs.House.{is_nobody}
 use Rattle.sched.specs.Stores.{place_of}
 use Rattle.sched.proofs.Bounded.{none_from, some-from, first-unique}
