@@ -107,19 +107,6 @@ impl From<Rank> for QueueId {
 }
 
 impl<K, const N: u8> Id<K, N> {
-    pub fn new(number: u32) -> Option<Self>
-        ensures { MatchOption result (N ≤ number) (λ t. (t.index ≡ number) × (number < N)) }
-    {
-        Id::try_from(number).ok()
-    }
-
-    pub fn number(self) -> u32
-        ensures value { result ≡ self.index }
-        ensures bound { result < N }
-    {
-        u32::from(self)
-    }
-
     // As a place in an array.
     pub fn index(self) -> usize
         ensures value { result ≡ self.index }
