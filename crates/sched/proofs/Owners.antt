@@ -1,5 +1,5 @@
 -- Owners are compared by their numbers: what `==` and `contains` say of options of tasks, in the words of the rules.
-use Rattle.std.proofs.Common.{◌≡◌, ℕ, suc, ◌<◌, Bool, true, false, ◌&&◌, eqb, List, length, get_or, Some, None, Option, MatchOption, sym, refl, ap, ◌∙◌, inl, inr, arith}
+use Rattle.std.proofs.Common.{◌≡◌, ℕ, suc, ◌<◌, Bool, true, false, ◌&&◌, eqb, List, length, get_or, Some, None, Option, MatchOption, sym, refl, ◌∙◌, inl, inr, arith}
 use Rattle.std.proofs.lemmas.Bool.{ne_eqb, cases_Bool}
 use Rattle.std.proofs.lemmas.Bool.Decides.{nat_tests}
 use Rattle.std.proofs.lemmas.List.Elements.{All-from_get_or}
@@ -9,7 +9,7 @@ use Rattle.std.specs.Option.{option_eq}
 use Rattle.quantities.specs.Ids.{TaskId}
 use Rattle.sched.specs.House.{some'}
 use Rattle.sched.specs.Stores.{owner_of}
-use Rattle.sched.proofs.Bounded.{some-from, some-witness, none-at, none_from}
+use Rattle.sched.proofs.Bounded.{some-witness, none-at}
 
 -- numbers are equal where one more than they are
 eqb-suc : (a b : ℕ) → eqb a b ≡ eqb (suc a) (suc b)

@@ -1,4 +1,4 @@
-use Rattle.std.proofs.Common.{rules, sym, ap, ◌∙◌, refl}
+use Rattle.std.proofs.Common.{sym, ap, ◌∙◌, refl}
 use Rattle.sched.specs.House.{is_task}
 use Rattle.sched.specs.Stores.{place_of}
 use Rattle.sched.proofs.Seeing.{seen-wants}

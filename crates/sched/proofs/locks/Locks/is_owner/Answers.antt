@@ -1,4 +1,4 @@
-use Rattle.std.proofs.Common.{refl, suc, eqb, ap, ◌∙◌, rules}
+use Rattle.std.proofs.Common.{refl, suc, eqb, ap, ◌∙◌}
 use Rattle.sched.proofs.Owners.{same-owner}
 use Rattle.sched.proofs.locks.Locks.is_owner.Goals as goal
 

@@ -1,5 +1,5 @@
 -- The owners that are read are those of the house.
-use Rattle.std.proofs.Common.{refl, suc, eqb, None, ap, ◌∙◌, rules}
+use Rattle.std.proofs.Common.{refl, suc, eqb, None, ap, ◌∙◌}
 use Rattle.sched.proofs.Owners.{same-owner, any-below}
 use Rattle.sched.proofs.locks.Locks.owns_any.Goals as goal
 

@@ -1,6 +1,6 @@
-use Rattle.std.proofs.Common.{◌≡◌, true, get_or, Some, None, Option, MatchOption, ◌∙◌, rules}
+use Rattle.std.proofs.Common.{◌≡◌, true, get_or, MatchOption, ◌∙◌, rules}
 use Rattle.windows.specs.Life as life
-use Rattle.sched.specs.Stores.{window_of, shut}
+use Rattle.sched.specs.Stores.{shut}
 use Rattle.sched.proofs.Soonest.{sooner-told}
 use Rattle.sched.proofs.Owners.{some-too}
 use Rattle.sched.proofs.reserved.Reserved.goes_before.Goals as goal
