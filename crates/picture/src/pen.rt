@@ -1,6 +1,6 @@
 // Writes the elements of the picture, each on a line of its own, onto a page that is handed on now and then.
 ghost use Rattle.std.specs.Prelude.{◌+◌, ◌≤◌, length, decimal};
-ghost use Rattle.script.specs.Printed.{Wrote};
+ghost use Rattle.script.specs.Printed.{pending, Wrote};
 
 use script::page::Page;
 use script::sink::{Sink, Stopped};
@@ -26,20 +26,20 @@ impl Pen {
     }
 
     pub fn text(&mut self, text: &[u8])
-        ensures { self.old.page.len + length text.now ≤ 65536 → Wrote self.old.page self.new.page text.now }
+        ensures { length (pending self.old.page) + length text.now ≤ 65536 → Wrote self.old.page self.new.page text.now }
     {
         self.page.text(text);
     }
 
     // In decimal digits.
     pub fn number(&mut self, n: u32)
-        ensures { self.old.page.len + 20 ≤ 65536 → Wrote self.old.page self.new.page (decimal n) }
+        ensures { length (pending self.old.page) + 20 ≤ 65536 → Wrote self.old.page self.new.page (decimal n) }
     {
         self.page.number(u64::from(n));
     }
 
     pub fn long(&mut self, n: u64)
-        ensures { self.old.page.len + 20 ≤ 65536 → Wrote self.old.page self.new.page (decimal n) }
+        ensures { length (pending self.old.page) + 20 ≤ 65536 → Wrote self.old.page self.new.page (decimal n) }
     {
         self.page.number(n);
     }

@@ -3,7 +3,6 @@ pub mod Names
 pub mod Splitting
 pub mod Commands
 pub mod Standing
-pub mod Spelling
 pub mod Pages
 pub mod Drawing
 pub mod Parsing
