@@ -14,6 +14,6 @@ loop-count-preserved c =
     let i = c.loop-count.invariant room in
     let r : length (pending c.loop-count.self) + 21 ≤ 65536 = omega (arith, room, i.1, c.requires, c.loop-count-test.true) in (
       wrote_more c.text.new.self c.loop-count.self c.count.new.self _ _ i.0 (c.count.ensures.text r)
-      ∙ ap (λ t. pending c.text.new.self ++ t) (sym (ap counts_text (take_more cs k None c.loop-count-test.true) ∙ counts_push (take k cs) _)),
+          ∙ ap (λ t. pending c.text.new.self ++ t) (sym (ap counts_text (take_more cs k None c.loop-count-test.true) ∙ counts_push (take k cs) _)),
       omega (arith, i.1, c.count.ensures.most r),
     )
