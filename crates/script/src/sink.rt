@@ -1,6 +1,9 @@
 // Where text goes.
 ghost use Rattle.std.specs.Prelude.{◌≡◌, ℕ, true, List, ◌++◌, is_ok};
 
+use std::error::Error;
+use std::fmt::{self, Display, Formatter};
+
 // Takes what is written. `Err` says that it can't be written any more.
 pub trait Sink {
     // All that it took so far can be these bytes. A sink of which nothing is known, as the system's, holds this of any.
@@ -11,5 +14,13 @@ pub trait Sink {
 }
 
 // The text can't be written any more.
-#[derive(Clone, Copy)]
+#[derive(Clone, Copy, Debug)]
 pub struct Stopped;
+
+impl Display for Stopped {
+    fn fmt<W: fmt::Write>(&self, f: &mut Formatter<W>) -> fmt::Result {
+        f.write_str("the text can't be written any more")
+    }
+}
+
+impl Error for Stopped {}
