@@ -75,6 +75,7 @@ impl Theatre {
         self.had[i as usize]
     }
 
+    // Not by `get_mut`: nothing is known of an array after a write through what it lends (tried, `wrote` and `sized` stay open).
     fn set_had(&mut self, i: u32, had: Option<u64>)
         ensures wrote { self.new.had ≡ slice_set self.old.had i had }
         ensures same { self.new.scheduler ≡ self.old.scheduler }
