@@ -1,11 +1,11 @@
 -- What is kept while it is no more than so many, and a word that is taken in.
-use Rattle.std.proofs.Common.{◌≡◌, ℕ, suc, ◌+◌, ◌<◌, ◌≤◌, true, false, eqb, leb, List, [], ◌∷◌, ◌++◌, length, Some, None, Option, Ok, Err, is_ok, is_err, ◌↔◌, OnOk, OnErr, Result, sym, refl, ap, ◌∙◌, ⊎_elim, arith}
+use Rattle.std.proofs.Common.{◌≡◌, ℕ, suc, ◌<◌, ◌≤◌, true, false, eqb, leb, List, [], ◌∷◌, ◌++◌, length, Some, None, Option, Ok, Err, is_ok, is_err, ◌↔◌, OnOk, OnErr, Result, sym, refl, ap, ◌∙◌, ⊎_elim, arith}
 use Rattle.std.proofs.lemmas.Bool.{cases_lt, cond-true, cond-false, le-leb, lt-leb, eqb-true, both_ways}
 use Rattle.std.proofs.lemmas.List.{length_push}
 use Rattle.arrayvec.specs.ArrayVec.{ArrayVec}
 use Rattle.script.specs.declared.word.Word.{Word}
 use Rattle.script.specs.Grammar.{value_of, number_of}
-use Rattle.script.specs.Taken.{at_most, WordTaken, word_of}
+use Rattle.script.specs.Taken.{at_most, WordTaken}
 
 module _ {T : Type 0} where
   pub fits : (n : ℕ) (xs : List T) → length xs ≤ n → at_most n xs ≡ Some (record { items = xs })

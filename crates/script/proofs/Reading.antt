@@ -1,5 +1,5 @@
 -- A line that is taken in, and what it asks for by the number of its words.
-use Rattle.std.proofs.Common.{◌≡◌, ℕ, ◌+◌, ◌<◌, ◌≤◌, eqb, false, List, [], ◌∷◌, ◌++◌, map, length, get_or, Some, None, Option, sym, refl, ap, ◌∙◌, arith}
+use Rattle.std.proofs.Common.{◌≡◌, ℕ, ◌<◌, eqb, false, List, [], ◌∷◌, ◌++◌, map, length, get_or, Some, None, Option, sym, refl, ap, ◌∙◌, arith}
 use Rattle.std.proofs.lemmas.List.{length-append, length-map, map_push}
 use Rattle.arrayvec.specs.ArrayVec.{ArrayVec}
 use Rattle.script.specs.declared.command.Command.{Command}
@@ -7,7 +7,7 @@ use Rattle.script.specs.declared.line.Line.{Line}
 use Rattle.script.specs.declared.word.Word.{Word}
 use Rattle.script.specs.Grammar.{words, of_words, one_word, two_words, three_words, four_words, command_of}
 use Rattle.script.specs.Taken.{at_most, WordTaken, LineTaken, word_of}
-use Rattle.script.proofs.Keeping.{fits, kept, let_go, kept-more, full-more, none-more}
+use Rattle.script.proofs.Keeping.{fits, kept, let_go}
 use Rattle.script.proofs.Splitting.{words-space, words_more}
 use Rattle.script.proofs.Commands.{too_many}
 

@@ -43,7 +43,7 @@ impl Printer {
         self.page.end_line(out)
     }
 
-    // How many ticks each task has had, by place.
+    // How many ticks each task has had, by place. A slice, since `&[_; 64]` would turn away whoever has fewer places.
     pub fn had<S: Sink>(&mut self, counts: &[Option<u64>], out: &mut S) -> Result<(), Stopped>
         requires { length counts.now ≤ 64 }
         ensures { is_ok result ≡ true → Prints S.Sink.took out.old self.old.page out.new self.new.page (as_line (had_text counts.now)) }

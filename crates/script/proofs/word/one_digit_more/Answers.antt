@@ -1,5 +1,5 @@
 -- What the digits come to with one more.
-use Rattle.std.proofs.Common.{◌<◌, sym, ap, ◌∙◌, arith}
+use Rattle.std.proofs.Common.{sym, ◌∙◌, arith}
 use Rattle.script.proofs.Numbers.{other-more, none_more, over-more, added, no_digit, digit}
 use Rattle.script.proofs.word.one_digit_more.Goals as goal
 

@@ -1,11 +1,5 @@
 -- The number of words says which form the command has.
-use Rattle.std.proofs.Common.{◌≡◌, List, map, sym, ◌∙◌, arith}
-use Rattle.arrayvec.specs.ArrayVec.{ArrayVec}
-use Rattle.script.specs.declared.line.Line.{Line}
-use Rattle.script.specs.declared.word.Word.{Word}
-use Rattle.std.proofs.Common.{Some}
-use Rattle.script.specs.Taken.{word_of, LineTaken}
-use Rattle.script.proofs.Keeping.{kept}
+use Rattle.std.proofs.Common.{◌∙◌, arith}
 use Rattle.script.proofs.Reading.{as_none, as-one, as-two, as-three, as-four, their_words}
 use Rattle.script.proofs.line.Line.command.Goals as goal
 

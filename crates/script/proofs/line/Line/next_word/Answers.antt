@@ -1,5 +1,5 @@
 -- The word is kept while a command can have as many, and the next one is empty.
-use Rattle.std.proofs.Common.{◌∷◌, [], ◌++◌, ◌≤◌, ◌<◌, length, ap, sym, ◌∙◌, arith}
+use Rattle.std.proofs.Common.{◌∷◌, [], ◌++◌, ap, sym, ◌∙◌, arith}
 use Rattle.script.proofs.Keeping.{kept-more, full-more, none-more, err_says, ok_says, room_says}
 use Rattle.script.proofs.Reading.{spaced}
 use Rattle.script.proofs.line.Line.next_word.Goals as goal

@@ -1,5 +1,5 @@
 -- One byte more: it is kept while there is room.
-use Rattle.std.proofs.Common.{◌∷◌, [], ◌++◌, ◌<◌, length, ◌≡◌, ◌≤◌, sym, ◌∙◌, arith}
+use Rattle.std.proofs.Common.{◌∷◌, [], ◌++◌, sym, ◌∙◌, arith}
 use Rattle.script.proofs.Keeping.{kept-more, full-more, none-more, err_says, ok_says, room_says, name-taken, value-taken, as_word}
 use Rattle.script.proofs.word.Word.push.Goals as goal
 
