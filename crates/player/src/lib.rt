@@ -54,8 +54,8 @@ impl Player {
         ensures empty { is_ok result ≡ true → pending self.new.printer.page ≡ [] }
         ensures playing { is_ok result ≡ true → (before script : List ℕ) → Playing S.Sink.took self.old out.old before script → Playing S.Sink.took self.new out.new before (script ++ bytes.now) }
     {
-        for k in 0..bytes.len() {
-            self.take(bytes[k], out)?;
+        for byte in bytes {
+            self.take(*byte, out)?;
         }
         self.printer.flush(out)
     }
@@ -75,8 +75,7 @@ impl Player {
     pub fn finish<S: Sink>(&mut self, out: &mut S) -> Result<(), Stopped>
         ensures { is_ok result ≡ true → (before script : List ℕ) → Playing S.Sink.took self.old out.old before script → Played S.Sink.took out.new before script }
     {
-        let begun = self.line.is_begun();
-        if !begun {
+        if !self.line.is_begun() {
             return self.printer.flush(out);
         }
         self.end_line(out)?;

@@ -69,12 +69,10 @@ impl Theatre {
     fn had_by(&self, i: u32) -> Option<u64>
         ensures { result ≡ slice_index_or self.now.had i None }
     {
-        if i >= 64 {
-            return None;
-        }
-        self.had[i as usize]
+        self.had.get(i as usize).copied().flatten()
     }
 
+    // By an index, since the proof through `get_mut` didn't close: what is written through its loan isn't known of the array.
     fn set_had(&mut self, i: u32, had: Option<u64>)
         ensures wrote { self.new.had ≡ slice_set self.old.had i had }
         ensures same { self.new.scheduler ≡ self.old.scheduler }

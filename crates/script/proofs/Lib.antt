@@ -1,10 +1,9 @@
 pub mod Numbers
-pub mod Names
 pub mod Splitting
 pub mod Commands
-pub mod Standing
-pub mod Spelling
 pub mod Pages
 pub mod Drawing
 pub mod Parsing
 pub mod Apart
+pub mod Keeping
+pub mod Reading

@@ -1,8 +1,10 @@
 -- What digits come to as a byte is put after them.
 use Rattle.std.proofs.Common.{◌≡◌, ℕ, ◌+◌, ◌-◌, ◌*◌, ◌^◌, ◌<◌, ◌≤◌, Bool, true, false, cond, ◌&&◌, ltb, leb, ◌⊎◌, List, [], ◌∷◌, ◌++◌, Some, None, Option, sym, refl, ap, ◌∙◌, inl, inr, ⊎_elim, arith}
 use mathlib.Core.Bool.{and-true, and_assoc}
-use Rattle.std.proofs.lemmas.Bool.{and_parts, and_cases, and_left, and_right, and_from, cond-true, cond-false, ltb-true, ltb-false, lt-ltb, le-ltb, lt-leb, le-leb}
+use Rattle.std.proofs.lemmas.Bool.{and_parts, and_cases, and_left, and_right, and_from, cond-true, cond-false, ltb-true, ltb-false, cases_lt, lt-ltb, le-ltb, lt-leb, le-leb}
 use Rattle.std.specs.Option.{SomeIff}
+use Rattle.std.specs.Char.{NotDecimalDigitIn, IsDigitOf}
+use Rattle.std.specs.Int.{IsInRange}
 use Rattle.script.specs.Grammar.{is_digit, all_digits, value_after, value_of}
 
 all_digits-push : (xs : List ℕ) (b : ℕ) → all_digits (xs ++ (b ∷ [])) ≡ (all_digits xs && is_digit b)
@@ -88,8 +90,21 @@ pub added : (r : Option ℕ) (xs : List ℕ) (b v t d : ℕ) → value_of xs ≡
 added None xs b v t d e is p q h = sym (over-more xs b v e (omega (arith, h)))
 added (Some x) xs b v t d e is p q h = let l = h.0 in ap Some (h.1 ∙ omega arith) ∙ sym (some_more xs b v e is (omega arith))
 
-pub no_digit : (b : ℕ) → (b < 48) ⊎ ((48 ≤ b) × (57 < b)) → is_digit b ≡ false
-no_digit b h = ⊎_elim (λ l. and_left (leb 48 b) (leb b 57) (lt-leb 48 b l)) (λ p. and_right (leb 48 b) (leb b 57) (lt-leb b 57 p.1)) h
+-- a byte that `to_digit` has no digit for, and one that it has
+pub no_digit : (b : ℕ) → NotDecimalDigitIn 10 b → is_digit b ≡ false
+no_digit b h =
+    ⊎_elim
+    (λ (l : b < 48). and_left (leb 48 b) (leb b 57) (lt-leb 48 b l))
+    (λ (l : 48 ≤ b).
+    ⊎_elim
+    (λ (m : 57 < b). and_right (leb 48 b) (leb b 57) (lt-leb b 57 m))
+    (λ (m : b ≤ 57). absurd (omega (arith, h l m, m)))
+    (cases_lt 57 b))
+    (cases_lt b 48)
 
-pub digit : (b : ℕ) → 48 ≤ b → b ≤ 57 → is_digit b ≡ true
-digit b l m = and_from (leb 48 b) (leb b 57) (le-leb 48 b l) (le-leb b 57 m)
+pub digit : (b d : ℕ) → IsDigitOf b d → d < 10 → (is_digit b ≡ true) × (d ≡ b - 48)
+digit b d h l =
+    ⊎_elim
+    (λ (p : IsInRange 48 57 b × (48 + d ≡ b)). (and_from (leb 48 b) (leb b 57) (le-leb 48 b p.0.0) (le-leb b 57 p.0.1), omega (arith, p.1)))
+    (λ q. absurd (⊎_elim (λ (p : IsInRange 65 90 b × (55 + d ≡ b)). omega (arith, p.0.0, p.1, l)) (λ (p : IsInRange 97 122 b × (87 + d ≡ b)). omega (arith, p.0.0, p.1, l)) q))
+    h

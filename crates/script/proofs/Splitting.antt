@@ -1,5 +1,7 @@
 -- How the words of a line grow with its bytes.
-use Rattle.std.proofs.Common.{◌≡◌, ℕ, zero, suc, ◌+◌, ◌<◌, true, false, cond, eqb, List, [], ◌∷◌, ◌++◌, length, get_or, set, sym, refl, ap, ◌∙◌, arith}
+use Rattle.std.proofs.Common.{◌≡◌, ℕ, ◌<◌, true, false, cond, not, ◌&&◌, eqb, ltb, List, [], ◌∷◌, ◌++◌, length, get_or, sym, refl, ap, ◌∙◌, arith}
+use Rattle.std.proofs.lemmas.List.{length_push}
+use Rattle.std.proofs.lemmas.Bool.{ne_eqb, lt-ltb}
 use Rattle.script.specs.Grammar.{on_first, words}
 
 length-on_first : (b : ℕ) (ws : List (List ℕ)) → 0 < length ws → length (on_first b ws) ≡ length ws
@@ -26,50 +28,53 @@ words-space (x ∷ xs) ys =
     ∙ elim (eqb x 32) as (λ t. cond t ([] ∷ (words xs ++ words ys)) (on_first x (words xs ++ words ys)) ≡ cond t ([] ∷ words xs) (on_first x (words xs)) ++ words ys)
     [ true ↦ refl | false ↦ on_first-append x (words xs) (words ys) (words-some xs) ]
 
--- the last word, which is the one at this place, with a byte after it
-abbrev pub last_more : List (List ℕ) → ℕ → ℕ → List (List ℕ)
-last_more ws at b = set ws at (get_or ws at [] ++ (b ∷ []))
+-- the last of some words, with a byte after it
+last_more : List (List ℕ) → ℕ → List (List ℕ)
+last_more [] b = []
+last_more (w ∷ []) b = (w ++ (b ∷ [])) ∷ []
+last_more (w ∷ v ∷ vs) b = w ∷ last_more (v ∷ vs) b
 
-on_first-last : (x : ℕ) (ws : List (List ℕ)) (at b : ℕ) → 0 < length ws → on_first x (last_more ws at b) ≡ last_more (on_first x ws) at b
-on_first-last x [] at b l = absurd (omega (arith, l))
-on_first-last x (w ∷ ws) zero b l = refl
-on_first-last x (w ∷ ws) (suc k) b l = refl
+last_more-later : (w : List ℕ) (ws : List (List ℕ)) (b : ℕ) → 0 < length ws → last_more (w ∷ ws) b ≡ w ∷ last_more ws b
+unfolding last_more
+last_more-later w [] b l = absurd (omega (arith, l))
+last_more-later w (v ∷ vs) b l = refl
 
-pub words_more : (xs : List ℕ) (at b : ℕ) → eqb b 32 ≡ false → length (words xs) ≡ at + 1 → words (xs ++ (b ∷ [])) ≡ last_more (words xs) at b
+last_more-on_first : (x : ℕ) (ws : List (List ℕ)) (b : ℕ) → 0 < length ws → on_first x (last_more ws b) ≡ last_more (on_first x ws) b
+unfolding last_more
+last_more-on_first x [] b l = absurd (omega (arith, l))
+last_more-on_first x (w ∷ []) b l = refl
+last_more-on_first x (w ∷ v ∷ vs) b l = refl
+
+last_more-push : (vs : List (List ℕ)) (v : List ℕ) (b : ℕ) → last_more (vs ++ (v ∷ [])) b ≡ vs ++ ((v ++ (b ∷ [])) ∷ [])
+unfolding last_more
+last_more-push [] v b = refl
+last_more-push (w ∷ vs) v b = last_more-later w (vs ++ (v ∷ [])) b (omega (arith, length_push vs v)) ∙ ap (λ us. w ∷ us) (last_more-push vs v b)
+
+words-last_more : (xs : List ℕ) (b : ℕ) → eqb b 32 ≡ false → words (xs ++ (b ∷ [])) ≡ last_more (words xs) b
+unfolding words last_more
+words-last_more [] b ne = ap (λ t. cond t ([] ∷ ([] ∷ [])) ((b ∷ []) ∷ [])) ne
+words-last_more (x ∷ xs) b ne =
+    ap (λ ws. cond (eqb x 32) ([] ∷ ws) (on_first x ws)) (words-last_more xs b ne)
+    ∙ elim (eqb x 32) as (λ t. cond t ([] ∷ last_more (words xs) b) (on_first x (last_more (words xs) b)) ≡ last_more (cond t ([] ∷ words xs) (on_first x (words xs))) b)
+    [ true ↦ sym (last_more-later [] (words xs) b (words-some xs)) | false ↦ last_more-on_first x (words xs) b (words-some xs) ]
+
+-- another byte than a space goes to the last word
+pub words_more : (xs : List ℕ) (vs : List (List ℕ)) (v : List ℕ) (b : ℕ) → eqb b 32 ≡ false → words xs ≡ vs ++ (v ∷ []) → words (xs ++ (b ∷ [])) ≡ vs ++ ((v ++ (b ∷ [])) ∷ [])
+words_more xs vs v b ne e = words-last_more xs b ne ∙ ap (λ ws. last_more ws b) e ∙ last_more-push vs v b
+
+-- a line has no byte if it is one empty word
+pub words-begun : (xs : List ℕ) (vs : List (List ℕ)) (v : List ℕ) → words xs ≡ vs ++ (v ∷ []) → ltb 0 (length xs) ≡ not (eqb (length vs) 0 && eqb (length v) 0)
 unfolding words
-words_more [] zero b ne l = ap (λ t. cond t ([] ∷ ([] ∷ [])) ((b ∷ []) ∷ [])) ne
-words_more [] (suc k) b ne l = absurd (omega (arith, l))
-words_more (x ∷ xs) at b ne l =
-    (elim (eqb x 32) as (λ t. length (cond t ([] ∷ words xs) (on_first x (words xs))) ≡ at + 1 → cond t ([] ∷ words (xs ++ (b ∷ []))) (on_first x (words (xs ++ (b ∷ [])))) ≡ last_more (cond t ([] ∷ words xs) (on_first x (words xs))) at b) [
-      | true ↦ λ n. spaced at n (λ k m. words_more xs k b ne m)
-      | false ↦ λ n. ap (on_first x) (words_more xs at b ne (sym (length-on_first x (words xs) (words-some xs)) ∙ n)) ∙ on_first-last x (words xs) at b (words-some xs)
-    ]) l
+words-begun [] [] v e = let z : [] ≡ v = ap (λ ws. get_or ws 0 []) e in ap (λ u. not (eqb (length u) 0)) z
+words-begun [] (w ∷ vs) v e = absurd (omega (arith, ap length e, length_push vs v))
+words-begun (x ∷ xs) (w ∷ vs) v e = lt-ltb 0 (length (x ∷ xs)) (omega arith) ∙ sym (ap not (ap (λ t. t && eqb (length v) 0) (ne_eqb (length (w ∷ vs)) 0 (λ z. omega (arith, z)))))
+words-begun (x ∷ xs) [] v e =
+    lt-ltb 0 (length (x ∷ xs)) (omega arith) ∙
+    (elim (eqb x 32) as (λ t. cond t ([] ∷ words xs) (on_first x (words xs)) ≡ v ∷ [] → true ≡ not (eqb (length v) 0)) [
+      | true ↦ λ q. absurd (omega (arith, ap length q, words-some xs))
+      | false ↦ λ q. ap not (sym (ne_eqb (length v) 0 (λ z. omega (arith, z, ap (λ us. length (get_or us 0 [])) q, some-first x (words xs)))))
+    ]) e
   where
-    spaced : (at : ℕ) → suc (length (words xs)) ≡ at + 1 → ((k : ℕ) → length (words xs) ≡ k + 1 → words (xs ++ (b ∷ [])) ≡ last_more (words xs) k b) → ◌≡◌ {A = List (List ℕ)} ([] ∷ words (xs ++ (b ∷ []))) (last_more ([] ∷ words xs) at b)
-    spaced zero n h = absurd (omega (arith, n, words-some xs))
-    spaced (suc k) n h = ap (λ ws. [] ∷ ws) (h k (omega (arith, n)))
-
--- an empty word at the end reads as none
-pub get_or-empty : (ws : List (List ℕ)) (j : ℕ) → get_or (ws ++ ([] ∷ [])) j [] ≡ get_or ws j []
-get_or-empty [] zero = refl
-get_or-empty [] (suc j) = refl
-get_or-empty (w ∷ ws) zero = refl
-get_or-empty (w ∷ ws) (suc j) = get_or-empty ws j
-
--- a list of so many words, by its words
-pub one-word : (ws : List (List ℕ)) → length ws ≡ 1 → ws ≡ get_or ws 0 [] ∷ []
-one-word [] e = absurd (omega (arith, e))
-one-word (v ∷ []) e = refl
-one-word (v ∷ a ∷ ws) e = absurd (omega (arith, e))
-
-pub two-words : (ws : List (List ℕ)) → length ws ≡ 2 → ws ≡ get_or ws 0 [] ∷ get_or ws 1 [] ∷ []
-two-words [] e = absurd (omega (arith, e))
-two-words (v ∷ ws) e = ap (λ us. v ∷ us) (one-word ws (omega (arith, e)))
-
-pub three-words : (ws : List (List ℕ)) → length ws ≡ 3 → ws ≡ get_or ws 0 [] ∷ get_or ws 1 [] ∷ get_or ws 2 [] ∷ []
-three-words [] e = absurd (omega (arith, e))
-three-words (v ∷ ws) e = ap (λ us. v ∷ us) (two-words ws (omega (arith, e)))
-
-pub four-words : (ws : List (List ℕ)) → length ws ≡ 4 → ws ≡ get_or ws 0 [] ∷ get_or ws 1 [] ∷ get_or ws 2 [] ∷ get_or ws 3 [] ∷ []
-four-words [] e = absurd (omega (arith, e))
-four-words (v ∷ ws) e = ap (λ us. v ∷ us) (three-words ws (omega (arith, e)))
+    some-first : (x : ℕ) (ws : List (List ℕ)) → 0 < length (get_or (on_first x ws) 0 [])
+    some-first x [] = omega arith
+    some-first x (w ∷ ws) = omega arith

@@ -25,34 +25,23 @@ impl Generator {
     pub fn next_step(&mut self) -> Next
         ensures { drawn result self.new.state ≡ step self.old.state }
     {
-        let number = self.below(64);
-        if number < 32 {
-            return Next::Tick;
+        match self.below(64) {
+            0..=31 => Next::Tick,
+            number => Next::Calls(self.call(number)),
         }
-        Next::Calls(self.call(number))
     }
 
     fn call(&mut self, number: u32) -> Call
         ensures { drawn result self.new.state ≡ call number self.old.state }
     {
-        if number < 34 {
-            return Call::Make(self.kind());
+        match number {
+            0..=33 => Call::Make(self.kind()),
+            34..=39 => Call::End(self.below(72)),
+            40..=46 => Call::Wake(self.pick(16, 80)),
+            47..=48 => Call::Sleep(self.pick(16, 80)),
+            49..=51 => Call::Lock(self.below(8), self.lock()),
+            _ => Call::Unlock(self.below(8), self.lock()),
         }
-        if number < 40 {
-            return Call::End(self.below(72));
-        }
-        if number < 47 {
-            return Call::Wake(self.pick(16, 80));
-        }
-        if number < 49 {
-            return Call::Sleep(self.pick(16, 80));
-        }
-        let i = self.below(8);
-        let m = self.lock();
-        if number < 52 {
-            return Call::Lock(i, m);
-        }
-        Call::Unlock(i, m)
     }
 
     // One of four locks, or none that there is.
@@ -66,16 +55,15 @@ impl Generator {
     fn kind(&mut self) -> Kind
         ensures { drawn result self.new.state ≡ kind self.old.state }
     {
-        let which = self.below(4);
-        if which < 2 {
-            let period = self.period();
-            let quota = self.below(period / 2 + 1);
-            return Kind::Reserved(quota, period);
+        match self.below(4) {
+            0..=1 => {
+                let period = self.period();
+                let quota = self.below(period / 2 + 1);
+                Kind::Reserved(quota, period)
+            }
+            2 => Kind::Fixed(self.pick(3, 20)),
+            _ => Kind::Fair(self.pick(4, 1100)),
         }
-        if which == 2 {
-            return Kind::Fixed(self.pick(3, 20));
-        }
-        Kind::Fair(self.pick(4, 1100))
     }
 
     fn period(&mut self) -> u32

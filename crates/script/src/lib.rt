@@ -2,7 +2,6 @@
 #![tactic(auto)]
 
 pub mod command;
-mod digits;
 pub mod generator;
 pub mod laws;
 pub mod line;

@@ -1,5 +1,5 @@
 // Text on its way out: whole lines are gathered, and handed on together.
-ghost use Rattle.std.specs.Prelude.{◌≤◌};
+use arrayvec::ArrayVec;
 
 mod filling;
 mod handing;
@@ -13,7 +13,5 @@ const LONGEST_LINE: usize = 2048;
 
 #[derive(Drop)]
 pub struct Page {
-    bytes: [u8; 65536],
-    len: usize,
-    ghost within: { len ≤ 65536 },
+    bytes: ArrayVec<u8, SIZE>,
 }

@@ -1,5 +1,5 @@
 // Prints whole lines. Between two of them the page has room for one more, whichever.
-ghost use Rattle.std.specs.Prelude.{◌≤◌};
+ghost use Rattle.script.specs.Printed.{Roomy};
 
 use crate::page::Page;
 
@@ -8,5 +8,5 @@ mod lines;
 #[derive(Drop)]
 pub struct Printer {
     page: Page,
-    ghost room: { page.len ≤ 63488 },
+    ghost room: { Roomy page },
 }

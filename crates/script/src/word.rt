@@ -1,20 +1,27 @@
 // A word of a line, taken in byte by byte: a name of the language, a number, or neither.
-ghost use Rattle.std.specs.Prelude.{◌≡◌, ℕ, ◌≤◌, List, [], ◌∷◌, ◌++◌, length, ◌==◌};
-ghost use Rattle.std.specs.Str.{bytes_eq};
+ghost use Rattle.std.specs.Prelude.{◌≡◌, ℕ, ◌<◌, List, [], ◌∷◌, ◌++◌, length, ◌==◌, MatchOption};
 ghost use Rattle.script.specs.Grammar.{value_of, number_of};
 ghost use Rattle.script.specs.Taken.{WordTaken};
+
+use arrayvec::ArrayVec;
 
 // No name of the language is longer.
 const LONGEST: usize = 8;
 
-#[derive(Clone, Copy)]
+#[derive(Drop)]
 pub struct Word {
-    // the first bytes of it
-    text: [u8; 8],
-    // how many bytes it has, of which one that is too long counts one more than the longest
-    len: usize,
+    // its bytes, unless it is too long to be a name
+    name: Option<ArrayVec<u8, LONGEST>>,
     // what it comes to as a decimal number below 2^32, if it is one
     value: Option<u32>,
+}
+
+impl Default for Word {
+    ghost is_default = { λ w. WordTaken w [] };
+
+    fn default() -> Word {
+        Word::new()
+    }
 }
 
 impl Word {
@@ -22,8 +29,7 @@ impl Word {
         ensures { WordTaken result [] }
     {
         Word {
-            text: [0; 8],
-            len: 0,
+            name: Some(ArrayVec::new()),
             value: Some(0),
         }
     }
@@ -31,7 +37,10 @@ impl Word {
     pub fn is_empty(&self) -> bool
         ensures { (xs : List ℕ) → WordTaken self.now xs → result ≡ (length xs == 0) }
     {
-        self.len == 0
+        match &self.name {
+            Some(name) => name.is_empty(),
+            None => false,
+        }
     }
 
     // One byte more.
@@ -39,35 +48,28 @@ impl Word {
         ensures { (xs : List ℕ) → WordTaken self.old xs → WordTaken self.new (xs ++ (byte ∷ [])) }
     {
         self.value = one_digit_more(self.value, byte);
-        if self.len < LONGEST {
-            self.text[self.len] = byte;
-            self.len += 1;
-        } else {
-            self.len = LONGEST + 1;
+        if let Some(name) = &mut self.name {
+            if name.try_push(byte).is_err() {
+                self.name = None;
+            }
         }
     }
 
-    // Whether it is this name.
-    pub fn is(&self, name: &[u8]) -> bool
-        requires { length name.now ≤ 8 }
-        ensures { (xs : List ℕ) → WordTaken self.now xs → result ≡ bytes_eq xs name.now }
+    // Its bytes, unless it is too long to be a name.
+    pub fn name(&self) -> Option<&[u8]>
+        ensures { (xs : List ℕ) → WordTaken self.now xs → MatchOption result (8 < length xs) (λ name. name.now ≡ xs) }
     {
-        if self.len != name.len() {
-            return false;
+        match &self.name {
+            Some(name) => Some(name.as_slice()),
+            None => None,
         }
-        for k in 0..name.len() {
-            if self.text[k] != name[k] {
-                return false;
-            }
-        }
-        true
     }
 
     // The number that it is, if it is one below 2^32; leading zeros are allowed.
     pub fn number(&self) -> Option<u32>
         ensures { (xs : List ℕ) → WordTaken self.now xs → result ≡ number_of xs }
     {
-        if self.len == 0 {
+        if self.is_empty() {
             return None;
         }
         self.value
@@ -78,9 +80,6 @@ impl Word {
 fn one_digit_more(value: Option<u32>, byte: u8) -> Option<u32>
     ensures { (xs : List ℕ) → value ≡ value_of xs → result ≡ value_of (xs ++ (byte ∷ [])) }
 {
-    if byte < b'0' || byte > b'9' {
-        return None;
-    }
-    let tens = value?.checked_mul(10)?;
-    tens.checked_add(u32::from(byte - b'0'))
+    let digit = char::from(byte).to_digit(10)?;
+    value?.checked_mul(10)?.checked_add(digit)
 }

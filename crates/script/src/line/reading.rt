@@ -1,10 +1,11 @@
 // What a line asks for: its verb, and what stands after it.
-ghost use Rattle.std.specs.Prelude.{◌≡◌, ℕ, List, length, nat_lt};
-ghost use Rattle.script.specs.Grammar.{command_of, one_word, two_words, kind_of_one, three_words, four_words};
-ghost use Rattle.script.specs.Taken.{WordAt, LineTaken};
+ghost use Rattle.std.specs.Prelude.{◌≡◌, ℕ, cond, List, length, nat_lt};
+ghost use Rattle.script.specs.Grammar.{is, command_of, one_word, two_words, kind_of_one, three_words, four_words};
+ghost use Rattle.script.specs.Taken.{WordTaken, LineTaken};
 
 use super::Line;
 use crate::command::Command;
+use crate::word::Word;
 use sched::{Call, Kind};
 
 impl Line {
@@ -12,96 +13,90 @@ impl Line {
     pub fn is_begun(&self) -> bool
         ensures { (xs : List ℕ) → LineTaken self.now xs → result ≡ nat_lt 0 (length xs) }
     {
-        self.begun
+        match &self.ended {
+            Some(ended) => !(ended.is_empty() && self.last.is_empty()),
+            None => true,
+        }
     }
 
     // What the line asks for, if it is a command.
     pub fn command(&self) -> Option<Command>
         ensures { (xs : List ℕ) → LineTaken self.now xs → result ≡ command_of xs }
     {
-        if self.bad {
-            return None;
-        }
-        match self.at {
-            0 => self.alone(),
-            1 => self.with_one(),
-            2 => self.with_two(),
-            _ => self.with_three(),
+        let last = &self.last;
+        match self.ended.as_ref()?.as_slice() {
+            [] => one_word(last),
+            [verb] => two_words(verb, last),
+            [verb, first] => three_words(verb, first, last),
+            [verb, first, second] => four_words(verb, first, second, last),
+            _ => None,
         }
     }
+}
 
-    fn alone(&self) -> Option<Command>
-        ensures { (v : List ℕ) → WordAt self.now.words 0 v → result ≡ one_word v }
-    {
-        if self.words[0].is(b"had") {
-            return Some(Command::Had);
-        }
-        None
+fn one_word(verb: &Word) -> Option<Command>
+    ensures { (v : List ℕ) → WordTaken verb.now v → result ≡ one_word v }
+{
+    match verb.name()? {
+        b"had" => Some(Command::Had),
+        _ => None,
     }
+}
 
-    fn with_one(&self) -> Option<Command>
-        ensures { (v a : List ℕ) → WordAt self.now.words 0 v → WordAt self.now.words 1 a → result ≡ two_words v a }
-    {
-        let n = self.words[1].number()?;
-        let verb = &self.words[0];
-        if verb.is(b"tick") {
-            return Some(Command::Tick(n));
-        }
-        if verb.is(b"wake") {
-            return Some(Command::Call(Call::Wake(n)));
-        }
-        if verb.is(b"sleep") {
-            return Some(Command::Call(Call::Sleep(n)));
-        }
-        if verb.is(b"end") {
-            return Some(Command::Call(Call::End(n)));
-        }
-        None
+fn two_words(verb: &Word, number: &Word) -> Option<Command>
+    ensures { (v a : List ℕ) → WordTaken verb.now v → WordTaken number.now a → result ≡ two_words v a }
+{
+    let n = number.number()?;
+    match verb.name()? {
+        b"tick" => Some(Command::Tick(n)),
+        b"wake" => Some(Command::Call(Call::Wake(n))),
+        b"sleep" => Some(Command::Call(Call::Sleep(n))),
+        b"end" => Some(Command::Call(Call::End(n))),
+        _ => None,
     }
+}
 
-    fn with_two(&self) -> Option<Command>
-        ensures { (v a b : List ℕ) → WordAt self.now.words 0 v → WordAt self.now.words 1 a → WordAt self.now.words 2 b → result ≡ three_words v a b }
-    {
-        let n = self.words[2].number()?;
-        let verb = &self.words[0];
-        if verb.is(b"make") {
-            return self.make_of_one(n);
-        }
-        let m = self.words[1].number()?;
-        if verb.is(b"lock") {
-            return Some(Command::Call(Call::Lock(m, n)));
-        }
-        if verb.is(b"unlock") {
-            return Some(Command::Call(Call::Unlock(m, n)));
-        }
-        if verb.is(b"any") {
-            return Some(Command::Any(m, n));
-        }
-        None
+fn three_words(verb: &Word, first: &Word, second: &Word) -> Option<Command>
+    ensures { (v a b : List ℕ) → WordTaken verb.now v → WordTaken first.now a → WordTaken second.now b → result ≡ three_words v a b }
+{
+    let n = second.number()?;
+    match verb.name()? {
+        b"make" => kind_of_one(first, n),
+        b"lock" => Some(Command::Call(Call::Lock(first.number()?, n))),
+        b"unlock" => Some(Command::Call(Call::Unlock(first.number()?, n))),
+        b"any" => Some(Command::Any(first.number()?, n)),
+        _ => None,
     }
+}
 
-    // The kinds that have one number.
-    fn make_of_one(&self, n: u32) -> Option<Command>
-        ensures { (a : List ℕ) → WordAt self.now.words 1 a → result ≡ kind_of_one a n }
-    {
-        let kind = &self.words[1];
-        if kind.is(b"fixed") {
-            return Some(Command::Call(Call::Make(Kind::Fixed(n))));
-        }
-        if kind.is(b"fair") {
-            return Some(Command::Call(Call::Make(Kind::Fair(n))));
-        }
-        None
+// The kinds that have one number.
+fn kind_of_one(kind: &Word, n: u32) -> Option<Command>
+    ensures { (a : List ℕ) → WordTaken kind.now a → result ≡ kind_of_one a n }
+{
+    match kind.name()? {
+        b"fixed" => Some(Command::Call(Call::Make(Kind::Fixed(n)))),
+        b"fair" => Some(Command::Call(Call::Make(Kind::Fair(n)))),
+        _ => None,
     }
+}
 
-    fn with_three(&self) -> Option<Command>
-        ensures { (v a b c : List ℕ) → WordAt self.now.words 0 v → WordAt self.now.words 1 a → WordAt self.now.words 2 b → WordAt self.now.words 3 c → result ≡ four_words v a b c }
-    {
-        let quota = self.words[2].number()?;
-        let period = self.words[3].number()?;
-        if self.words[0].is(b"make") && self.words[1].is(b"reserved") {
-            return Some(Command::Call(Call::Make(Kind::Reserved(quota, period))));
-        }
-        None
+fn four_words(verb: &Word, kind: &Word, quota: &Word, period: &Word) -> Option<Command>
+    ensures { (v a b c : List ℕ) → WordTaken verb.now v → WordTaken kind.now a → WordTaken quota.now b → WordTaken period.now c → result ≡ four_words v a b c }
+{
+    let quota = quota.number()?;
+    let period = period.number()?;
+    match verb.name()? {
+        b"make" => kind_of_two(kind, quota, period),
+        _ => None,
+    }
+}
+
+// The kind that has two.
+fn kind_of_two(kind: &Word, quota: u32, period: u32) -> Option<Command>
+    ensures { (a : List ℕ) → WordTaken kind.now a → result ≡ cond (is a "reserved") (Some (Command.Call (Call.Make (Kind.Reserved quota period)))) None }
+{
+    match kind.name()? {
+        b"reserved" => Some(Command::Call(Call::Make(Kind::Reserved(quota, period)))),
+        _ => None,
     }
 }

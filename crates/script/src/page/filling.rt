@@ -1,44 +1,38 @@
-// How a page is filled.
+// How a page is filled. What finds no room is left out.
 ghost use Rattle.std.specs.Prelude.{◌≡◌, ◌+◌, ◌<◌, ◌≤◌, [], ◌∷◌, length, decimal};
-ghost use Rattle.script.specs.Printed.{Wrote};
+ghost use Rattle.script.specs.Printed.{pending, Wrote};
 
-use super::{Page, SIZE};
-use crate::digits::spell;
+use super::Page;
+use arrayvec::ArrayVec;
+use itoa::Buffer;
 
 impl Page {
     pub fn new() -> Page
-        ensures { result.len ≡ 0 }
+        ensures { pending result ≡ [] }
     {
         Page {
-            bytes: [0; 65536],
-            len: 0,
+            bytes: ArrayVec::new(),
         }
     }
 
     pub fn text(&mut self, text: &[u8])
-        ensures { self.old.len + length text.now ≤ 65536 → Wrote self.old self.new text.now }
+        ensures { length (pending self.old) + length text.now ≤ 65536 → Wrote self.old self.new text.now }
     {
-        for k in 0..text.len() {
-            self.put(text[k]);
-        }
+        let _ = self.bytes.try_extend_from_slice(text);
     }
 
     // In decimal digits.
     pub fn number(&mut self, n: u64)
-        ensures text { self.old.len + 20 ≤ 65536 → Wrote self.old self.new (decimal n) }
-        ensures most { self.old.len + 20 ≤ 65536 → self.new.len ≤ self.old.len + 20 }
+        ensures text { length (pending self.old) + 20 ≤ 65536 → Wrote self.old self.new (decimal n) }
+        ensures most { length (pending self.old) + 20 ≤ 65536 → length (pending self.new) ≤ length (pending self.old) + 20 }
     {
-        let mut digits = [0u8; 20];
-        let first = spell(n, &mut digits);
-        self.text(&digits[first..20]);
+        let mut digits = Buffer::new();
+        self.text(digits.format(n).as_bytes());
     }
 
     pub fn put(&mut self, byte: u8)
-        ensures { self.old.len < 65536 → Wrote self.old self.new (byte ∷ []) }
+        ensures { length (pending self.old) < 65536 → Wrote self.old self.new (byte ∷ []) }
     {
-        if self.len < SIZE {
-            self.bytes[self.len] = byte;
-            self.len += 1;
-        }
+        let _ = self.bytes.try_push(byte);
     }
 }

@@ -1,6 +1,6 @@
 // The lines that are printed.
-ghost use Rattle.std.specs.Prelude.{◌≡◌, ℕ, ◌≤◌, true, List, [], ◌++◌, length, is_ok};
-ghost use Rattle.script.specs.Printed.{Printed, pending};
+ghost use Rattle.std.specs.Prelude.{◌≡◌, ℕ, ◌≤◌, true, List, [], length, is_ok};
+ghost use Rattle.script.specs.Printed.{Printed, Prints, pending};
 ghost use Rattle.script.specs.Text.{answer_text, tick_text, had_text, bad_line_text, as_line};
 
 use super::Printer;
@@ -24,7 +24,7 @@ impl Printer {
     }
 
     pub fn answer<S: Sink>(&mut self, answer: Answer, out: &mut S) -> Result<(), Stopped>
-        ensures { is_ok result ≡ true → (xs : List ℕ) → Printed S.Sink.took out.old self.old.page xs → Printed S.Sink.took out.new self.new.page (xs ++ as_line (answer_text answer)) }
+        ensures { is_ok result ≡ true → Prints S.Sink.took out.old self.old.page out.new self.new.page (as_line (answer_text answer)) }
     {
         self.page.answer(answer);
         self.page.end_line(out)
@@ -37,16 +37,16 @@ impl Printer {
         runs: u32,
         out: &mut S,
     ) -> Result<(), Stopped>
-        ensures { is_ok result ≡ true → (xs : List ℕ) → Printed S.Sink.took out.old self.old.page xs → Printed S.Sink.took out.new self.new.page (xs ++ as_line (tick_text whose runs)) }
+        ensures { is_ok result ≡ true → Prints S.Sink.took out.old self.old.page out.new self.new.page (as_line (tick_text whose runs)) }
     {
         self.page.tick(whose, runs);
         self.page.end_line(out)
     }
 
-    // How many ticks each task has had, by place.
+    // How many ticks each task has had, by place. A slice, since `&[_; 64]` would turn away whoever has fewer places.
     pub fn had<S: Sink>(&mut self, counts: &[Option<u64>], out: &mut S) -> Result<(), Stopped>
         requires { length counts.now ≤ 64 }
-        ensures { is_ok result ≡ true → (xs : List ℕ) → Printed S.Sink.took out.old self.old.page xs → Printed S.Sink.took out.new self.new.page (xs ++ as_line (had_text counts.now)) }
+        ensures { is_ok result ≡ true → Prints S.Sink.took out.old self.old.page out.new self.new.page (as_line (had_text counts.now)) }
     {
         self.page.had(counts);
         self.page.end_line(out)
@@ -54,7 +54,7 @@ impl Printer {
 
     // A line that is no command, by its number.
     pub fn bad_line<S: Sink>(&mut self, number: u64, out: &mut S) -> Result<(), Stopped>
-        ensures { is_ok result ≡ true → (xs : List ℕ) → Printed S.Sink.took out.old self.old.page xs → Printed S.Sink.took out.new self.new.page (xs ++ as_line (bad_line_text number)) }
+        ensures { is_ok result ≡ true → Prints S.Sink.took out.old self.old.page out.new self.new.page (as_line (bad_line_text number)) }
     {
         self.page.bad_line(number);
         self.page.end_line(out)

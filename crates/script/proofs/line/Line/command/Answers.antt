@@ -1,20 +1,34 @@
 -- The number of words says which form the command has.
-use Rattle.std.proofs.Common.{None, arith}
-use Rattle.script.proofs.Standing.{as_none, as_one, as-two, as-three, as-four}
+use Rattle.std.proofs.Common.{◌∙◌, arith}
+use Rattle.script.proofs.Reading.{as_none, as-one, as-two, as-three, as-four, their_words}
 use Rattle.script.proofs.line.Line.command.Goals as goal
 
-pub returns-then-self : goal.returns-then-self
-returns-then-self c = λ xs t. as_none c.args.self.now.words c.args.self.now.at c.args.self.now.bad xs t.standing None c.if-self.true
+pub returns-in_err-as_ref : goal.returns-in_err-as_ref
+returns-in_err-as_ref c = λ xs t. c.from_residual.ensures ∙ as_none c.args.self.now xs t c.in_err-as_ref.ensures.value
 
-pub returns-in-0 : goal.returns-in-0
-returns-in-0 c = λ xs t. as_one c.args.self.now.words c.args.self.now.at c.args.self.now.bad xs t.standing c.alone.result c.if-self.false c.in-0.is c.alone.ensures
+pub returns-in-empty : goal.returns-in-empty
+returns-in-empty c =
+    λ xs t.
+    as-one xs t.last_word c.args.self.now.last t.last c.one_word.result c.as_slice.result.now t.ended_words t.cut
+    (c.as_slice.ensures.value ∙ their_words c.args.self.now xs t c.in_ok-as_ref.field-0.now c.in_ok-as_ref.ensures.value) c.in-empty.len_below c.one_word.ensures
 
-pub returns-in-1 : goal.returns-in-1
-returns-in-1 c = λ xs t. as-two c.args.self.now.words c.args.self.now.at c.args.self.now.bad xs t.standing c.with_one.result c.if-self.false c.in-1.is c.with_one.ensures
+pub returns-in-len1 : goal.returns-in-len1
+returns-in-len1 c =
+    λ xs t.
+    as-two xs t.last_word c.args.self.now.last t.last c.two_words.result c.as_slice.result.now t.ended_words t.cut
+    (c.as_slice.ensures.value ∙ their_words c.args.self.now xs t c.in_ok-as_ref.field-0.now c.in_ok-as_ref.ensures.value) (omega (arith, c.in-len1.len_at_least, c.in-len1.len_below))
+    c.verb-item.result c.verb-item.is c.two_words.ensures
 
-pub returns-in-2 : goal.returns-in-2
-returns-in-2 c = λ xs t. as-three c.args.self.now.words c.args.self.now.at c.args.self.now.bad xs t.standing c.with_two.result c.if-self.false c.in-2.is c.with_two.ensures
+pub returns-in-len2 : goal.returns-in-len2
+returns-in-len2 c =
+    λ xs t.
+    as-three xs t.last_word c.args.self.now.last t.last c.three_words.result c.as_slice.result.now t.ended_words t.cut
+    (c.as_slice.ensures.value ∙ their_words c.args.self.now xs t c.in_ok-as_ref.field-0.now c.in_ok-as_ref.ensures.value) (omega (arith, c.in-len2.len_at_least, c.in-len2.len_below))
+    c.verb-item-then-this-lt3.result c.first-item.result c.verb-item-then-this-lt3.is c.first-item.is c.three_words.ensures
 
-pub returns-in_default : goal.returns-in_default
-returns-in_default c =
-    λ xs t. as-four c.args.self.now.words c.args.self.now.at c.args.self.now.bad xs t.standing c.with_three.result c.if-self.false (omega (arith, c.args.self.now.within)) c.with_three.ensures
+pub returns-in-len3 : goal.returns-in-len3
+returns-in-len3 c =
+    λ xs t.
+    as-four xs t.last_word c.args.self.now.last t.last c.four_words.result c.as_slice.result.now t.ended_words t.cut
+    (c.as_slice.ensures.value ∙ their_words c.args.self.now xs t c.in_ok-as_ref.field-0.now c.in_ok-as_ref.ensures.value) (omega (arith, c.in-len3.len_at_least, c.in-len3.len_below))
+    c.verb-item-then-this-lt4.result c.first-item-then-this-lt4.result c.second-item.result c.verb-item-then-this-lt4.is c.first-item-then-this-lt4.is c.second-item.is c.four_words.ensures

@@ -1,7 +1,6 @@
 -- No byte has been taken in.
-use Rattle.std.proofs.Common.{refl}
-use Rattle.script.proofs.Standing.{fresh}
+use Rattle.script.proofs.Reading.{fresh}
 use Rattle.script.proofs.line.Line.new.Goals as goal
 
 pub returns : goal.returns
-returns c = record { begun = refl; standing = fresh c.new.result c.new.ensures }
+returns c = fresh c.new.result c.new-2.result c.new.ensures c.new-2.ensures

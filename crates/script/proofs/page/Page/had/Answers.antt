@@ -1,28 +1,19 @@
--- The counts one after the other.
-use Rattle.std.proofs.Common.{◌+◌, ◌<◌, ◌≤◌, length, None, arith}
-use Rattle.script.proofs.Pages.{wrote-more, counts-more, counts_all}
+-- One count more.
+use Rattle.std.proofs.Common.{◌+◌, ◌≤◌, ◌++◌, length, take, None, sym, ap, ◌∙◌, arith}
+use Rattle.std.proofs.lemmas.List.{take_more}
+use Rattle.script.specs.Printed.{pending}
+use Rattle.script.specs.Text.{counts_text}
+use Rattle.script.proofs.Pages.{wrote_more, counts_push}
 use Rattle.script.proofs.page.Page.had.Goals as goal
 
-pub loop-k-preserved : goal.loop-k-preserved
-loop-k-preserved c =
+pub loop-count-preserved : goal.loop-count-preserved
+loop-count-preserved c =
     λ room.
-    let i = c.loop-k.invariant room in
-    let l : c.loop-k.k < length c.args.counts.now = omega arith in
-    let r : c.loop-k.self.len + 21 ≤ 65536 = omega (arith, room, i.1, c.requires, l) in
-    (counts-more c.text.new.self c.loop-k.self c.count.new.self c.args.counts.now c.loop-k.k None i.0 l (c.count.ensures.text r), omega (arith, i.1, c.count.ensures.most r))
-
-pub returns : goal.returns
-returns c =
-    record {
-      text =
-          λ room.
-          let a = c.text.ensures (omega (arith, room)) in
-          let i = c.loop-k.invariant (omega (arith, room, a.len)) in
-          wrote-more c.args.self.now c.text.new.self c.loop-k.self _ _ a (counts_all c.text.new.self c.loop-k.self c.args.counts.now c.loop-k.k i.0 (omega arith));
-      room =
-          λ room.
-          let a = c.text.ensures (omega (arith, room)) in
-          let i = c.loop-k.invariant (omega (arith, room, a.len)) in
-          let k : c.loop-k.k ≤ 64 = omega (arith, c.requires) in
-          omega (arith, room, a.len, i.1, k);
-    }
+    let k = c.loop-count.count-index in
+    let cs = c.args.counts.now in
+    let i = c.loop-count.invariant room in
+    let r : length (pending c.loop-count.self) + 21 ≤ 65536 = omega (arith, room, i.1, c.requires, c.loop-count-test.true) in (
+      wrote_more c.text.new.self c.loop-count.self c.count.new.self _ _ i.0 (c.count.ensures.text r)
+          ∙ ap (λ t. pending c.text.new.self ++ t) (sym (ap counts_text (take_more cs k None c.loop-count-test.true) ∙ counts_push (take k cs) _)),
+      omega (arith, i.1, c.count.ensures.most r),
+    )

@@ -1,9 +1,10 @@
 -- A number has a digit.
-use Rattle.script.proofs.Names.{no_bytes, some_bytes}
+use Rattle.std.proofs.Common.{sym, ◌∙◌}
+use Rattle.script.proofs.Keeping.{no-number, some-number, value-taken}
 use Rattle.script.proofs.word.Word.number.Goals as goal
 
-pub returns-then-self-eq0 : goal.returns-then-self-eq0
-returns-then-self-eq0 c = λ xs t. no_bytes c.args.self.now xs t c.if-self-eq0.true
+pub returns-then-is_empty : goal.returns-then-is_empty
+returns-then-is_empty c = λ xs t. no-number xs (sym (c.is_empty.ensures xs t) ∙ c.if-is_empty.true)
 
 pub returns : goal.returns
-returns c = λ xs t. some_bytes c.args.self.now xs t c.if-self-eq0.false
+returns c = λ xs t. value-taken c.args.self.now xs t ∙ some-number xs (sym (c.is_empty.ensures xs t) ∙ c.if-is_empty.false)

@@ -1,11 +1,23 @@
--- One byte more: it is kept while there is room, and past that counted once.
-use Rattle.script.proofs.Names.{more-short, more-long}
+-- One byte more: it is kept while there is room.
+use Rattle.std.proofs.Common.{◌∷◌, [], ◌++◌, sym, ◌∙◌, arith}
+use Rattle.script.proofs.Keeping.{kept-more, full-more, none-more, err_says, ok_says, room_says, name-taken, value-taken, as_word}
 use Rattle.script.proofs.word.Word.push.Goals as goal
 
-pub returns-then-self-lt-LONGEST : goal.returns-then-self-lt-LONGEST
-returns-then-self-lt-LONGEST c =
-    λ xs t. more-short c.args.self.now xs c.args.byte c.one_digit_more-self.result t c.if-self-lt-LONGEST.true (c.one_digit_more-self.ensures xs t.number)
+pub returns-then-is_err : goal.returns-then-is_err
+returns-then-is_err c =
+    λ xs t.
+    let full = err_says c.try_push.result (sym c.is_err.ensures.value ∙ c.if-is_err.true) c.try_push.ensures.full in
+    as_word _ _ (xs ++ (c.args.byte ∷ [])) (full-more 8 xs c.args.byte c.in-Some.name (name-taken c.args.self.now xs t ∙ c.in-Some.is) (omega (arith, full)))
+    (c.one_digit_more-self.ensures xs (value-taken c.args.self.now xs t))
 
-pub returns-else-self-lt-LONGEST : goal.returns-else-self-lt-LONGEST
-returns-else-self-lt-LONGEST c =
-    λ xs t. more-long c.args.self.now xs c.args.byte c.one_digit_more-self.result t c.if-self-lt-LONGEST.false (c.one_digit_more-self.ensures xs t.number)
+pub returns-else-is_err : goal.returns-else-is_err
+returns-else-is_err c =
+    λ xs t.
+    let no = sym c.is_err.ensures.value ∙ c.if-is_err.false in
+    as_word _ _ (xs ++ (c.args.byte ∷ []))
+    (kept-more 8 xs c.args.byte c.in-Some.name c.try_push.new.self (name-taken c.args.self.now xs t ∙ c.in-Some.is) (room_says c.try_push.result no c.try_push.ensures.variant) (ok_says c.try_push.result no c.try_push.ensures.ok))
+    (c.one_digit_more-self.ensures xs (value-taken c.args.self.now xs t))
+
+pub returns-in_default : goal.returns-in_default
+returns-in_default c =
+    λ xs t. as_word _ _ (xs ++ (c.args.byte ∷ [])) (c.in_default.is ∙ none-more 8 xs c.args.byte (name-taken c.args.self.now xs t ∙ c.in_default.is)) (c.one_digit_more-self.ensures xs (value-taken c.args.self.now xs t))
