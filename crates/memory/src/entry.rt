@@ -3,7 +3,7 @@ ghost use Rattle.std.specs.Prelude.{◌≡◌};
 
 use sched::{Answer, Call, Next};
 
-// A step of a script.
+// A step of a script. No Option of a call: a tick is a step as much as a call is.
 #[derive(Clone, Copy, Default)]
 pub enum Step {
     #[default]

@@ -55,6 +55,7 @@ impl<K, const N: u8> TryFrom<u32> for Id<K, N> {
         if number >= u32::from(N) {
             return Err(OutOfRange);
         }
+        // `as` after the test: a conversion would test once more.
         Ok(Id {
             index: number as u8,
             of: PhantomData,
@@ -107,7 +108,7 @@ impl From<Rank> for QueueId {
 }
 
 impl<K, const N: u8> Id<K, N> {
-    // As a place in an array.
+    // As a place in an array, by the name that the field's arenas give it: an array is read at each second line.
     pub fn index(self) -> usize
         ensures value { result ≡ self.index }
         ensures bound { result < N }

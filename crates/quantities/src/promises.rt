@@ -35,6 +35,7 @@ impl Weight {
         Weight { value: 1 }
     }
 
+    // Named as the library's own numbers with a range have it.
     pub fn get(self) -> u32
         ensures value { result ≡ self.value }
         ensures positive { 1 ≤ result }

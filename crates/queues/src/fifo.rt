@@ -30,6 +30,7 @@ pub struct Queues {
     ends: [Ends; 64],
 }
 
+// Whether something was done is a bool, as the library's sets have it.
 impl Queues {
     // All are empty.
     pub fn new() -> Self
@@ -160,6 +161,7 @@ impl Queues {
         self.set_prev(q, b, a);
     }
 
+    // This and the next are no twins: they differ in the field that they write, which can't be a parameter.
     fn set_next(&mut self, q: QueueId, a: Option<TaskId>, b: Option<TaskId>)
         ensures { self.new ≡ set_after q.index (spot a) b self.old }
     {

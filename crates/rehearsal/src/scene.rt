@@ -19,7 +19,8 @@ pub struct Scene {
 }
 
 impl Scene {
-    // Says whether the script, played from an empty scheduler, is answered as expected.
+    // Says whether the script, played from an empty scheduler, is answered as expected. It only reads and prints, of which no
+    // clause can say anything.
     pub fn rehearse(&self, rt: &HostRuntime) -> anyhow::Result<()> {
         let script = read(rt, self.script)?;
         let expected = read(rt, self.expected)?;

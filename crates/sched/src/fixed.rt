@@ -53,7 +53,7 @@ impl Fixed {
         }
     }
 
-    // The first of a rank that wants the tick.
+    // The first of a rank that wants the tick, among as many as there can be.
     fn first_wanting(&self, rank: Rank, wants: &Wants) -> Option<TaskId>
         ensures { (f : ℕ → List ℕ) (h : House) → Holds self.now.turn f → WantsOf wants.now h → owner_of result ≡ in_turn (asking h) (f rank.index) }
     {

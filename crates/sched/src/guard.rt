@@ -52,7 +52,7 @@ impl<'a> Guard<'a> {
         self.scheduler.can_take(self.task, m)
     }
 
-    // The lock is the task's, or false if it isn't to be had at once: then nothing has changed.
+    // The lock is the task's, or false, as a set's `insert` has it, if it isn't to be had at once: then nothing has changed.
     pub fn lock(&mut self, m: LockId) -> bool
         ensures lent { self.new.scheduler.ghost_name ≡ self.old.scheduler.ghost_name }
         ensures ids { self.new.task ≡ self.old.task }

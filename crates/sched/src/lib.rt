@@ -31,6 +31,8 @@ use reserved::Reserved;
 use tasks::Tasks;
 use wants::Wants;
 
+// The text of these four enums and of the trait is fixed: hence numbers where other code has ids, and a refusal by number.
+
 // Reserved: so many ticks of so many. Fixed: rank 0 goes first. Fair: by weight.
 #[derive(Clone, Copy)]
 pub enum Kind {
@@ -82,6 +84,8 @@ pub trait World {
         ensures { (house self.new ≡ after (house self.old) whose) × (left self.new + 1 ≡ left self.old) };
 }
 
+// A house is made of functions, which no model's value may be, and a scheduler stands for more than one, since positions are
+// kept less a base: so it has no model, and contracts speak of each house that it stands for.
 // What the scheduler knows: who is there and awake, the locks, and what each kind of promise keeps of its own.
 #[derive(Drop)]
 pub struct Scheduler {

@@ -24,6 +24,7 @@ impl Default for Word {
     }
 }
 
+// Where a name is looked at, it is by a match: with `as_ref` and a closure the proofs didn't close.
 impl Word {
     pub fn new() -> Word
         ensures { WordTaken result [] }

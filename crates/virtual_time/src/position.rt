@@ -9,6 +9,7 @@ mod parts;
 ghost use Rattle.std.specs.Prelude.{◌≡◌, ◌<◌};
 ghost use Rattle.virtual_time.specs.Positions.{capped, ticked_far, ticked_rest, lowered_far, lowered_rest};
 
+// Parts are less than the weight, so `as u16` loses nothing: a conversion would test what the proof knows.
 #[derive(Clone, Copy, PartialEq, Eq, Debug)]
 pub struct Position {
     whole: u32,

@@ -22,6 +22,7 @@ impl Window {
     pub fn begin(self, wants: bool, reservation: Reservation) -> Window
         ensures { life result ≡ open_with wants reservation.period (life self) }
     {
+        // A match, since its three cases are those of the rules.
         let span = match self.span {
             Some(span) => Some(span.whole_if(wants)),
             None if wants => Some(Span::new(reservation)),

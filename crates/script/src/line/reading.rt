@@ -9,7 +9,7 @@ use crate::word::Word;
 use sched::{Call, Kind};
 
 impl Line {
-    // A byte of it has come.
+    // A byte of it has come. A match, since with `as_ref` and a closure the proof didn't close.
     pub fn is_begun(&self) -> bool
         ensures { (xs : List ℕ) → LineTaken self.now xs → result ≡ nat_lt 0 (length xs) }
     {
