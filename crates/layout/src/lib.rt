@@ -27,16 +27,12 @@ impl Scale {
     pub fn of(ticks: u32) -> Scale
         ensures { result ≡ scale_of ticks }
     {
-        if ticks <= 40 {
-            return Scale::Wide;
+        match ticks {
+            ..=40 => Scale::Wide,
+            ..=160 => Scale::Middle,
+            ..=640 => Scale::Narrow,
+            _ => Scale::Fine,
         }
-        if ticks <= 160 {
-            return Scale::Middle;
-        }
-        if ticks <= 640 {
-            return Scale::Narrow;
-        }
-        Scale::Fine
     }
 
     // How wide a tick is.
@@ -75,8 +71,7 @@ impl Scale {
         match self {
             Scale::Wide => 1,
             Scale::Middle => 5,
-            Scale::Narrow => 10,
-            Scale::Fine => 10,
+            Scale::Narrow | Scale::Fine => 10,
         }
     }
 
@@ -108,10 +103,8 @@ impl Scale {
 
     pub fn row(self) -> Row {
         match self {
-            Scale::Wide => LARGE,
-            Scale::Middle => LARGE,
-            Scale::Narrow => SMALL,
-            Scale::Fine => SMALL,
+            Scale::Wide | Scale::Middle => LARGE,
+            Scale::Narrow | Scale::Fine => SMALL,
         }
     }
 }
@@ -123,6 +116,17 @@ pub struct Spot {
     pub column: u32,
 }
 
+impl Spot {
+    // The column after it, in the same band.
+    pub fn after(self) -> Spot
+        ensures band { result.band ≡ self.band }
+        ensures column { self.column ≤ 160 → result.column ≡ self.column + 1 }
+    {
+        let column = self.column.saturating_add(1);
+        Spot { column, ..self }
+    }
+}
+
 // So many columns of a band.
 #[derive(Clone, Copy)]
 pub struct Stretch {
@@ -132,6 +136,28 @@ pub struct Stretch {
 }
 
 impl Stretch {
+    // From this column up to where a spot begins.
+    pub fn until(from: u32, to: Spot) -> Stretch
+        ensures band { result.band ≡ to.band }
+        ensures ends { (result.from ≡ from) × (result.to ≡ to.column) }
+    {
+        Stretch {
+            band: to.band,
+            from,
+            to: to.column,
+        }
+    }
+
+    pub fn start(self) -> Spot
+        ensures band { result.band ≡ self.band }
+        ensures column { result.column ≡ self.from }
+    {
+        Spot {
+            band: self.band,
+            column: self.from,
+        }
+    }
+
     pub fn x(self, scale: Scale) -> u32
         ensures { self.from ≤ 160 → result ≡ 184 + self.from * tick_width scale }
     {
