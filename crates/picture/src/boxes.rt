@@ -1,188 +1,128 @@
 // Whose the ticks are: a box for each run of ticks of one task, hatched where another runs in them.
+use crate::canvas::Canvas;
+use crate::drawing::Layer;
 use crate::kinds::Class;
 use crate::moment::Moment;
-use crate::pen::Pen;
-use crate::shapes;
-use crate::shapes::Area;
-use crate::sheet::{IDLE, Sheet};
-use layout::{Spot, Stretch};
+use crate::runs::{Run, Shown};
+use crate::shapes::{Area, digits};
+use crate::sheet::IDLE;
+use layout::Stretch;
 use quantities::ids::TaskId;
+use script::sink::Sink;
+use std::fmt;
 
-// A run of ticks that are all alike.
-#[derive(Clone, Copy)]
+// Whose a tick is, and who runs in it. Their kinds belong to it: a place may be given to a task of another kind.
+#[derive(Clone, Copy, PartialEq)]
 struct Turn {
-    // the column in which it began
-    from: u32,
-    whose: Option<TaskId>,
-    runs: Option<TaskId>,
-    // the kinds of both
+    whose: TaskId,
+    runs: TaskId,
     owner: Option<Class>,
     runner: Option<Class>,
 }
 
 impl Turn {
-    fn at(column: u32, moment: &Moment) -> Turn {
-        Turn {
-            from: column,
-            whose: moment.whose(),
-            runs: moment.runs(),
-            owner: class(moment.whose(), moment),
-            runner: class(moment.runs(), moment),
-        }
-    }
-
-    fn is_like(self, other: Turn) -> bool {
-        same(self.whose, other.whose)
-            && same(self.runs, other.runs)
-            && alike(self.owner, other.owner)
-            && alike(self.runner, other.runner)
-    }
-}
-
-fn class(task: Option<TaskId>, moment: &Moment) -> Option<Class> {
-    match task {
-        Some(i) => moment.class(i),
-        None => None,
-    }
-}
-
-fn same(a: Option<TaskId>, b: Option<TaskId>) -> bool {
-    match a {
-        Some(i) => match b {
-            Some(j) => i.index() == j.index(),
-            None => false,
-        },
-        None => b.is_none(),
-    }
-}
-
-// A place may have been given to a task of another kind in between.
-fn alike(a: Option<Class>, b: Option<Class>) -> bool {
-    match a {
-        Some(x) => match b {
-            Some(y) => x == y,
-            None => false,
-        },
-        None => b.is_none(),
-    }
-}
-
-fn solid(class: Option<Class>) -> &'static [u8] {
-    match class {
-        Some(Class::Reserved) => b"r",
-        Some(Class::Fixed) => b"x",
-        Some(Class::Fair) => b"f",
-        None => b"i",
-    }
-}
-
-fn hollow(class: Option<Class>) -> &'static [u8] {
-    match class {
-        Some(Class::Reserved) => b"o ro",
-        Some(Class::Fixed) => b"o xo",
-        Some(Class::Fair) => b"o fo",
-        None => b"o",
+    fn of(moment: &Moment) -> Option<Self> {
+        let (whose, runs) = moment.turn()?;
+        Some(Turn {
+            whose,
+            runs,
+            owner: moment.class(whose),
+            runner: moment.class(runs),
+        })
     }
 }
 
 #[derive(Drop)]
 pub struct Boxes {
-    turn: Option<Turn>,
+    // nobody's ticks are shown too
+    turn: Shown<Option<Turn>>,
 }
 
 impl Boxes {
-    pub fn new() -> Boxes {
-        Boxes { turn: None }
-    }
-
-    pub fn tick(&mut self, sheet: &Sheet, spot: Spot, moment: &Moment, pen: &mut Pen) {
-        let next = Turn::at(spot.column, moment);
-        if let Some(turn) = self.turn {
-            if turn.is_like(next) {
-                return;
-            }
-            draw(sheet, spot, turn, pen);
-        }
-        self.turn = Some(next);
-    }
-
-    pub fn end_band(&mut self, sheet: &Sheet, end: Spot, pen: &mut Pen) {
-        if let Some(turn) = self.turn {
-            draw(sheet, end, turn, pen);
-        }
-        self.turn = None;
-    }
-}
-
-fn draw(sheet: &Sheet, to: Spot, turn: Turn, pen: &mut Pen) {
-    let stretch = Stretch {
-        band: to.band,
-        from: turn.from,
-        to: to.column,
-    };
-    match turn.whose {
-        Some(i) => {
-            own(sheet, stretch, i, turn, pen);
-            if !same(turn.whose, turn.runs) {
-                lent(sheet, stretch, turn, pen);
-            }
-        }
-        None => idle(sheet, stretch, pen),
-    }
-}
-
-fn idle(sheet: &Sheet, stretch: Stretch, pen: &mut Pen) {
-    let area = Area {
-        x: stretch.x(sheet.scale),
-        y: sheet
-            .band(stretch.band)
-            .nobody(sheet.scale)
-            .saturating_add(4),
-        width: stretch.width(sheet.scale),
-        height: IDLE - 8,
-    };
-    area.draw(b"i", pen);
-    hairlines(stretch, area, pen);
-}
-
-// The box in the row of the task whose the ticks are.
-fn own(sheet: &Sheet, stretch: Stretch, i: TaskId, turn: Turn, pen: &mut Pen) {
-    let area = sheet.boxed(i, stretch);
-    area.draw(solid(turn.owner), pen);
-    if !same(turn.whose, turn.runs) {
-        area.draw(b"h", pen);
-    }
-    hairlines(stretch, area, pen);
-}
-
-// Who runs in them, written into the box; and a hollow box in the runner's row, with whose they are.
-fn lent(sheet: &Sheet, stretch: Stretch, turn: Turn, pen: &mut Pen) {
-    if let Some(i) = turn.whose {
-        if let Some(j) = turn.runs {
-            let area = sheet.boxed(j, stretch);
-            area.draw(hollow(turn.runner), pen);
-            number_in(sheet, stretch, sheet.boxed(i, stretch), j, pen);
-            number_in(sheet, stretch, area, i, pen);
+    pub fn new() -> Self {
+        Boxes {
+            turn: Shown::nothing(),
         }
     }
 }
 
-// Between two ticks of one box.
-fn hairlines(stretch: Stretch, area: Area, pen: &mut Pen) {
-    if stretch.ticks() > 1 {
-        area.draw(b"t", pen);
+impl Layer for Boxes {
+    fn turn<S: Sink>(&mut self, canvas: &mut Canvas<S>, moment: Option<&Moment>) -> fmt::Result {
+        match self.turn.turn(moment.map(Turn::of), canvas.at) {
+            Some(run) => canvas.ticks(run),
+            None => Ok(()),
+        }
     }
 }
 
-// The number of a task in the middle of a box, if it has room.
-fn number_in(sheet: &Sheet, stretch: Stretch, area: Area, i: TaskId, pen: &mut Pen) {
-    let row = sheet.scale.row();
-    let digit: u32 = if row.small { 5 } else { 7 };
-    let needed = if i.number() < 10 { digit } else { digit * 2 };
-    if area.width < needed {
-        return;
+impl<S: Sink> Canvas<'_, S> {
+    fn ticks(&mut self, run: Run<Option<Turn>>) -> fmt::Result {
+        let stretch = run.stretch;
+        match run.what {
+            Some(turn) => self.boxes(stretch, turn),
+            None => self.idle(stretch),
+        }
     }
-    let class: &[u8] = if row.small { b"n ns" } else { b"n" };
-    let base = area.y.saturating_add(area.height.saturating_sub(3));
-    shapes::numeral(class, stretch.middle(sheet.scale), base, i.number(), pen);
+
+    fn idle(&mut self, stretch: Stretch) -> fmt::Result {
+        let area = Area {
+            corner: self.sheet.nobody(stretch.start()).below(4),
+            width: stretch.width(self.sheet.scale),
+            height: IDLE - 8,
+        };
+        self.pen.path("i", area)?;
+        self.hairlines(stretch, area)
+    }
+
+    // The box in the row of the task whose the ticks are, hatched where another runs in them.
+    fn boxes(&mut self, stretch: Stretch, turn: Turn) -> fmt::Result {
+        let area = self.sheet.boxed(turn.whose, stretch);
+        let lent = turn.whose != turn.runs;
+        self.pen.path(turn.owner.map_or("i", Class::style), area)?;
+        if lent {
+            self.pen.path("h", area)?;
+        }
+        self.hairlines(stretch, area)?;
+        if lent {
+            self.lent(stretch, turn, area)?;
+        }
+        Ok(())
+    }
+
+    // Who runs in them, written into the box; and a hollow box in the runner's row, with whose they are.
+    fn lent(&mut self, stretch: Stretch, turn: Turn, area: Area) -> fmt::Result {
+        let hollow = self.sheet.boxed(turn.runs, stretch);
+        match turn.runner {
+            Some(class) => self.pen.path(format_args!("o {class}o"), hollow)?,
+            None => self.pen.path("o", hollow)?,
+        }
+        self.number_in(area, turn.runs)?;
+        self.number_in(hollow, turn.whose)
+    }
+
+    // Between two ticks of one box.
+    fn hairlines(&mut self, stretch: Stretch, area: Area) -> fmt::Result {
+        if stretch.ticks() > 1 {
+            self.pen.path("t", area)?;
+        }
+        Ok(())
+    }
+
+    // The number of a task in the middle of a box, if it has room.
+    fn number_in(&mut self, area: Area, i: TaskId) -> fmt::Result {
+        let (class, digit) = if self.sheet.scale.row().small {
+            ("n ns", 5)
+        } else {
+            ("n", 7)
+        };
+        let number = u32::from(i);
+        if area.width < digits(number).saturating_mul(digit) {
+            return Ok(());
+        }
+        let base = area
+            .corner
+            .right(area.width / 2)
+            .below(area.height.saturating_sub(3));
+        self.pen.words(class, base, number)
+    }
 }

@@ -1,155 +1,137 @@
 // What stands around the layers: the head with title and legend, and of each band the numbers of ticks and the names of rows.
+use crate::canvas::Canvas;
 use crate::kinds::Class;
-use crate::pen::Pen;
-use crate::shapes::Area;
-use crate::sheet::{AXIS, Band, IDLE, Sheet};
-use crate::{legend, naming, shapes, style};
+use crate::naming::{Many, OccupantName};
+use crate::shapes::{Area, Point};
+use crate::sheet::IDLE;
 use quantities::ids::{LockId, TaskId};
 use sched::view::Occupant;
+use script::sink::Sink;
+use std::fmt;
+use std::fmt::Write;
 
-// The head: title, legend.
-pub fn open(sheet: &Sheet, pen: &mut Pen) {
-    svg(sheet, pen);
-    style::write(sheet.scale, pen);
-    pen.text(b"<rect width=\"100%\" height=\"100%\" fill=\"#fff\"/>");
-    pen.end();
-    title(sheet, pen);
-    summary(sheet, pen);
-    legend::write(pen);
-}
-
-pub fn close(pen: &mut Pen) {
-    pen.text(b"</svg>");
-    pen.end();
-}
-
-fn svg(sheet: &Sheet, pen: &mut Pen) {
-    pen.text(b"<svg xmlns=\"http://www.w3.org/2000/svg\" width=\"");
-    pen.number(sheet.width());
-    pen.text(b"\" height=\"");
-    pen.number(sheet.height());
-    pen.text(b"\" viewBox=\"0 0 ");
-    pen.number(sheet.width());
-    pen.text(b" ");
-    pen.number(sheet.height());
-    pen.text(b"\" font-family=\"Helvetica, Arial, sans-serif\" font-size=\"11\">");
-    pen.end();
-}
-
-fn title(sheet: &Sheet, pen: &mut Pen) {
-    shapes::open(b"T", 24, 34, pen);
-    pen.text(b"Whose each tick was: an evening of ");
-    naming::many(sheet.tally.ticks, b"tick", b"ticks", pen);
-    shapes::close(pen);
-}
-
-fn summary(sheet: &Sheet, pen: &mut Pen) {
-    let tally = sheet.tally;
-    shapes::open(b"S", 24, 54, pen);
-    naming::many(tally.made, b"task was made", b"tasks were made", pen);
-    pen.text(b"; ");
-    naming::many(
-        tally.refused,
-        b"call was turned away",
-        b"calls were turned away",
-        pen,
-    );
-    pen.text(b"; ");
-    naming::many(
-        tally.idle,
-        b"tick was nobody's",
-        b"ticks were nobody's",
-        pen,
-    );
-    pen.text(b".");
-    if u64::from(tally.drawn()) < tally.ticks {
-        pen.text(b" Only the first ");
-        pen.number(tally.drawn());
-        pen.text(b" ticks are drawn.");
+impl<S: Sink> Canvas<'_, S> {
+    // All that stands before the layers.
+    pub fn open(&mut self) -> fmt::Result {
+        self.svg()?;
+        self.pen.style(self.sheet.scale)?;
+        writeln!(
+            self.pen,
+            "<rect width=\"100%\" height=\"100%\" fill=\"#fff\"/>"
+        )?;
+        self.title()?;
+        self.pen.legend()?;
+        for k in 0..self.sheet.many() {
+            self.band(k)?;
+        }
+        Ok(())
     }
-    shapes::close(pen);
-}
 
-// A band before anything is drawn on it.
-pub fn band(sheet: &Sheet, k: u32, pen: &mut Pen) {
-    grid(sheet, k, pen);
-    let band = sheet.band(k);
-    for j in 0..64u32 {
-        if let Some(i) = TaskId::new(j) {
-            if band.tasks.has(i.index()) {
-                task(sheet, band, i, pen);
+    pub fn close(&mut self) -> fmt::Result {
+        writeln!(self.pen, "</svg>")
+    }
+
+    fn svg(&mut self) -> fmt::Result {
+        let width = self.sheet.width();
+        let height = self.sheet.height();
+        writeln!(
+            self.pen,
+            "<svg xmlns=\"http://www.w3.org/2000/svg\" width=\"{width}\" height=\"{height}\" viewBox=\"0 0 {width} {height}\" font-family=\"Helvetica, Arial, sans-serif\" font-size=\"11\">"
+        )
+    }
+
+    fn title(&mut self) -> fmt::Result {
+        let tally = self.sheet.tally;
+        let ticks = Many {
+            n: tally.ticks,
+            one: "tick",
+            more: "ticks",
+        };
+        self.pen.words(
+            "T",
+            Point { x: 24, y: 34 },
+            format_args!("Whose each tick was: an evening of {ticks}"),
+        )?;
+        self.pen.words("S", Point { x: 24, y: 54 }, tally)
+    }
+
+    // A band before anything is drawn on it.
+    fn band(&mut self, k: u32) -> fmt::Result {
+        self.grid(k)?;
+        for (i, m) in TaskId::all().zip(LockId::all()) {
+            if let Some(occupant) = self.sheet.band(k).names[i.index()] {
+                self.task(k, i, occupant)?;
+            }
+            if self.sheet.band(k).locks.has(m) {
+                self.lock(k, m)?;
             }
         }
-        if let Some(m) = LockId::new(j) {
-            if band.locks.has(m.index()) {
-                lock(sheet, band, m, pen);
+        let band = self.sheet.band(k);
+        if band.idle {
+            let top = Point {
+                x: 44,
+                y: band.nobody(),
+            };
+            self.pen.words("S", top.below(IDLE - 6), "nobody")?;
+        }
+        Ok(())
+    }
+
+    // The numbers of ticks, and a line downwards from each.
+    fn grid(&mut self, k: u32) -> fmt::Result {
+        let scale = self.sheet.scale;
+        let columns = self.sheet.columns(k);
+        let band = self.sheet.band(k);
+        let y = band.axis();
+        let height = band.bottom().saturating_sub(y);
+        for column in 0..columns {
+            let number = k
+                .saturating_mul(scale.per_band())
+                .saturating_add(column)
+                .saturating_add(1);
+            if column == 0 || number % scale.numbered() == 0 {
+                let top = Point {
+                    x: scale.x(column),
+                    y,
+                };
+                self.pen.path("u", format_args!("{top}v{height}"))?;
+                self.pen
+                    .words("y", top.right(scale.tick() / 2).above(6), number)?;
             }
         }
+        let top = Point {
+            x: scale.x(columns),
+            y,
+        };
+        self.pen.path("u", format_args!("{top}v{height}"))?;
+        self.pen.words("S", Point { x: 44, y }.above(6), "tick")
     }
-    if band.idle {
-        let y = band.nobody(sheet.scale).saturating_add(IDLE - 6);
-        shapes::words(b"S", 44, y, b"nobody", pen);
+
+    fn task(&mut self, k: u32, i: TaskId, occupant: Occupant) -> fmt::Result {
+        let row = self.sheet.scale.row();
+        let top = Point {
+            x: 44,
+            y: self.sheet.band(k).task(i),
+        };
+        let badge = Area {
+            corner: top.below(row.boxes),
+            width: 6,
+            height: row.depth,
+        };
+        let class = Class::of(occupant).map_or("k", Class::style);
+        self.pen.path(class, badge)?;
+        let base = badge.corner.below(row.depth.saturating_sub(2));
+        self.pen.words("p", base.left(6), u32::from(i))?;
+        self.pen.words("S", base.right(12), OccupantName(occupant))
     }
-}
 
-// The numbers of ticks, and a line downwards from each.
-fn grid(sheet: &Sheet, k: u32, pen: &mut Pen) {
-    let scale = sheet.scale;
-    let band = sheet.band(k);
-    let top = band.top.saturating_add(AXIS);
-    let height = band.bottom(scale).saturating_sub(top);
-    for column in 0..sheet.columns(k) {
-        let number = k
-            .saturating_mul(scale.per_band())
-            .saturating_add(column)
-            .saturating_add(1);
-        if column == 0 || number % scale.numbered() == 0 {
-            let x = scale.x(column);
-            shapes::down(b"u", x, top, height, pen);
-            let middle = x.saturating_add(scale.tick() / 2);
-            shapes::numeral(b"y", middle, band.top.saturating_add(AXIS - 6), number, pen);
-        }
+    fn lock(&mut self, k: u32, m: LockId) -> fmt::Result {
+        let top = Point {
+            x: 44,
+            y: self.sheet.band(k).lock(m),
+        };
+        let base = top.below(self.sheet.scale.row().lock.saturating_sub(5));
+        let number = u32::from(m);
+        self.pen.words("S", base, format_args!("lock {number}"))
     }
-    let end = scale.x(sheet.columns(k));
-    shapes::down(b"u", end, top, height, pen);
-    shapes::words(b"S", 44, band.top.saturating_add(AXIS - 6), b"tick", pen);
-}
-
-fn task(sheet: &Sheet, band: &Band, i: TaskId, pen: &mut Pen) {
-    let row = sheet.scale.row();
-    let top = band.task(i, sheet.scale);
-    let base = top
-        .saturating_add(row.boxes)
-        .saturating_add(row.depth.saturating_sub(2));
-    let occupant = band.names[i.index()];
-    let badge = Area {
-        x: 44,
-        y: top.saturating_add(row.boxes),
-        width: 6,
-        height: row.depth,
-    };
-    badge.draw(colour(occupant), pen);
-    shapes::numeral(b"p", 38, base, i.number(), pen);
-    shapes::open(b"S", 56, base, pen);
-    naming::occupant(occupant, pen);
-    shapes::close(pen);
-}
-
-fn colour(occupant: Occupant) -> &'static [u8] {
-    match Class::of(occupant) {
-        Some(Class::Reserved) => b"r",
-        Some(Class::Fixed) => b"x",
-        Some(Class::Fair) => b"f",
-        None => b"k",
-    }
-}
-
-fn lock(sheet: &Sheet, band: &Band, m: LockId, pen: &mut Pen) {
-    let base = band
-        .lock(m, sheet.scale)
-        .saturating_add(sheet.scale.row().lock.saturating_sub(5));
-    shapes::open(b"S", 44, base, pen);
-    pen.text(b"lock ");
-    pen.number(m.index() as u32);
-    shapes::close(pen);
 }

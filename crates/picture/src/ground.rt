@@ -1,12 +1,13 @@
 // The lowest layer: when each task is there, and when it wants a tick.
+use crate::canvas::Canvas;
+use crate::drawing::Layer;
 use crate::kinds::Class;
 use crate::moment::Moment;
-use crate::pen::Pen;
-use crate::runs::{Run, Runs};
-use crate::sheet::Sheet;
-use layout::{Spot, Stretch};
+use crate::runs::Shown;
 use quantities::ids::TaskId;
 use sched::view::{Occupant, View};
+use script::sink::Sink;
+use std::fmt;
 
 #[derive(Clone, Copy, PartialEq, Eq)]
 enum Tint {
@@ -18,69 +19,51 @@ enum Tint {
 }
 
 impl Tint {
-    fn of(view: View) -> Option<Tint> {
+    fn of(view: View) -> Option<Self> {
         match view.occupant {
             Occupant::Nobody => None,
-            Occupant::Task(kind) => {
-                if view.wants {
-                    return Some(Tint::Wants(Class::of_kind(kind)));
-                }
-                Some(Tint::WantsNone)
-            }
+            Occupant::Task(kind) if view.wants => Some(Tint::Wants(kind.into())),
+            Occupant::Task(_) => Some(Tint::WantsNone),
             Occupant::Kept(_, _) => Some(Tint::Kept),
         }
     }
+}
 
-    fn style(self) -> &'static [u8] {
-        match self {
-            Tint::WantsNone => b"s",
-            Tint::Wants(class) => match class {
-                Class::Reserved => b"rw",
-                Class::Fixed => b"xw",
-                Class::Fair => b"fw",
-            },
-            Tint::Kept => b"k",
+// Its class in the style sheet.
+impl fmt::Display for Tint {
+    fn fmt<W: fmt::Write>(&self, f: &mut fmt::Formatter<W>) -> fmt::Result {
+        match *self {
+            Tint::WantsNone => f.write_str("s"),
+            Tint::Wants(class) => write!(f, "{class}w"),
+            Tint::Kept => f.write_str("k"),
         }
     }
 }
 
 #[derive(Drop)]
 pub struct Ground {
-    runs: Runs<Tint>,
+    // by task
+    tints: [Shown<Tint>; 64],
 }
 
 impl Ground {
-    pub fn new() -> Ground {
-        Ground { runs: Runs::new() }
-    }
-
-    pub fn tick(&mut self, sheet: &Sheet, spot: Spot, moment: &Moment, pen: &mut Pen) {
-        for k in 0..64u32 {
-            if let Some(i) = TaskId::new(k) {
-                let tint = Tint::of(moment.place(i));
-                if let Some(run) = self.runs.turn(i.index(), tint, spot.column) {
-                    fill(sheet, spot, i, run, pen);
-                }
-            }
-        }
-    }
-
-    pub fn end_band(&mut self, sheet: &Sheet, end: Spot, pen: &mut Pen) {
-        for k in 0..64u32 {
-            if let Some(i) = TaskId::new(k) {
-                if let Some(run) = self.runs.end(i.index()) {
-                    fill(sheet, end, i, run, pen);
-                }
-            }
+    pub fn new() -> Self {
+        Ground {
+            tints: [Shown::nothing(); 64],
         }
     }
 }
 
-fn fill(sheet: &Sheet, to: Spot, i: TaskId, run: Run<Tint>, pen: &mut Pen) {
-    let stretch = Stretch {
-        band: to.band,
-        from: run.from,
-        to: to.column,
-    };
-    sheet.boxed(i, stretch).draw(run.what.style(), pen);
+impl Layer for Ground {
+    fn turn<S: Sink>(&mut self, canvas: &mut Canvas<S>, moment: Option<&Moment>) -> fmt::Result {
+        for i in TaskId::all() {
+            let tint = moment.and_then(|moment| Tint::of(moment.place(i)));
+            if let Some(run) = self.tints[i.index()].turn(tint, canvas.at) {
+                canvas
+                    .pen
+                    .path(run.what, canvas.sheet.boxed(i, run.stretch))?;
+            }
+        }
+        Ok(())
+    }
 }

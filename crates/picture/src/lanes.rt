@@ -1,23 +1,19 @@
-// Labels beside each other on a few lanes, so that none covers another.
-#[derive(Clone, Copy)]
+// Refusals beside each other on a few lanes, so that none covers another.
+use layout::Scale;
+
+#[derive(Clone, Copy, Default)]
 pub struct Lanes {
-    // where the last label of each lane ends
+    // where the last refusal of each lane ends
     ends: [u32; 3],
 }
 
 impl Lanes {
-    pub fn new() -> Lanes {
-        Lanes { ends: [0; 3] }
-    }
-
-    // The lane in which a label finds room, if there is one.
-    pub fn place(&mut self, x: u32, width: u32) -> Option<u32> {
-        for k in 0..3u32 {
-            if self.ends[k as usize] <= x {
-                self.ends[k as usize] = x.saturating_add(width);
-                return Some(k);
-            }
-        }
-        None
+    // The lane in which a refusal before this column finds room, if there is one.
+    pub fn place(&mut self, scale: Scale, column: u32) -> Option<u32> {
+        let x = scale.x(column);
+        let width = if scale.row().small { 14 } else { 30 };
+        let lane = self.ends.iter().position(|end| *end <= x)?;
+        self.ends[lane] = x.saturating_add(width);
+        Some(lane as u32)
     }
 }

@@ -1,118 +1,116 @@
 // What the signs mean: three columns, of five, four and four.
 use crate::pen::Pen;
-use crate::shapes;
-use crate::shapes::{Area, Bracket};
-
-const TOP: u32 = 68;
+use crate::shapes::{Area, Bracket, Point};
+use script::sink::Sink;
+use std::fmt;
 
 const LINE: u32 = 22;
 
-const FIRST: u32 = 24;
-
-const SECOND: u32 = 284;
-
-const THIRD: u32 = 584;
-
 const SIGN: u32 = 36;
 
-pub fn write(pen: &mut Pen) {
-    tasks(pen);
-    ticks(pen);
-    windows(pen);
-    lending(pen);
+// Where the columns begin.
+const FIRST: Point = Point { x: 24, y: 68 };
+
+const SECOND: Point = Point { x: 284, y: 68 };
+
+const THIRD: Point = Point { x: 584, y: 68 };
+
+// The top of a line of this column.
+fn line(column: Point, k: u32) -> Point {
+    column.below(k.saturating_mul(LINE))
 }
 
-// The top of a line.
-fn at(line: u32) -> u32 {
-    TOP.saturating_add(line.saturating_mul(LINE))
-}
-
-fn sign(class: &[u8], x: u32, line: u32, pen: &mut Pen) {
-    area(x, line).draw(class, pen);
-}
-
-fn area(x: u32, line: u32) -> Area {
-    Area {
-        x,
-        y: at(line),
-        width: SIGN,
-        height: 13,
+impl<S: Sink> Pen<'_, S> {
+    pub fn legend(&mut self) -> fmt::Result {
+        self.tasks()?;
+        self.ticks()?;
+        self.windows()?;
+        self.lending()
     }
-}
 
-fn says(x: u32, line: u32, text: &[u8], pen: &mut Pen) {
-    shapes::words(
-        b"S",
-        x.saturating_add(SIGN + 8),
-        at(line).saturating_add(11),
-        text,
-        pen,
-    );
-}
+    fn sign(&mut self, class: &str, corner: Point, width: u32) -> fmt::Result {
+        let area = Area {
+            corner,
+            width,
+            height: 13,
+        };
+        self.path(class, area)
+    }
 
-fn tasks(pen: &mut Pen) {
-    sign(b"r", FIRST, 0, pen);
-    says(FIRST, 0, b"tick of a reserved task", pen);
-    sign(b"x", FIRST, 1, pen);
-    says(FIRST, 1, b"tick of a fixed task", pen);
-    sign(b"f", FIRST, 2, pen);
-    says(FIRST, 2, b"tick of a fair task", pen);
-    sign(b"i", FIRST, 3, pen);
-    says(FIRST, 3, b"nobody's tick", pen);
-}
+    // What the sign at this corner means.
+    fn says(&mut self, corner: Point, text: &str) -> fmt::Result {
+        self.words("S", corner.right(SIGN + 8).below(11), text)
+    }
 
-fn ticks(pen: &mut Pen) {
-    pale(0, b"rw", pen);
-    pale(1, b"xw", pen);
-    pale(2, b"fw", pen);
-    pale(3, b"s", pen);
-    says(FIRST, 4, b"pale: wants a tick; grey: wants none", pen);
-}
+    fn tasks(&mut self) -> fmt::Result {
+        let signs = [
+            ("r", "tick of a reserved task"),
+            ("x", "tick of a fixed task"),
+            ("f", "tick of a fair task"),
+            ("i", "nobody's tick"),
+        ];
+        for (k, (class, text)) in (0..).zip(signs) {
+            let corner = line(FIRST, k);
+            self.sign(class, corner, SIGN)?;
+            self.says(corner, text)?;
+        }
+        Ok(())
+    }
 
-fn pale(k: u32, class: &[u8], pen: &mut Pen) {
-    let quarter = Area {
-        x: FIRST.saturating_add(k.saturating_mul(SIGN / 4)),
-        y: at(4),
-        width: SIGN / 4,
-        height: 13,
-    };
-    quarter.draw(class, pen);
-}
+    fn ticks(&mut self) -> fmt::Result {
+        let corner = line(FIRST, 4);
+        let mut quarter = corner;
+        for class in ["rw", "xw", "fw", "s"] {
+            self.sign(class, quarter, SIGN / 4)?;
+            quarter = quarter.right(SIGN / 4);
+        }
+        self.says(corner, "pale: wants a tick; grey: wants none")
+    }
 
-fn windows(pen: &mut Pen) {
-    bracket(0, b"w", b"d", pen);
-    says(SECOND, 0, b"a whole window; dot: quota had", pen);
-    bracket(1, b"w b", b"e", pen);
-    says(SECOND, 1, b"no longer whole; ring: quota not had", pen);
-    sign(b"k", SECOND, 2, pen);
-    says(SECOND, 2, b"ended; its share is still taken", pen);
-    shapes::words(b"z", SECOND, at(3).saturating_add(11), b"no 3", pen);
-    says(SECOND, 3, b"a call was turned away, and why", pen);
-}
+    fn windows(&mut self) -> fmt::Result {
+        let whole = line(SECOND, 0);
+        self.window(whole, "w", "d")?;
+        self.says(whole, "a whole window; dot: quota had")?;
+        let broken = line(SECOND, 1);
+        self.window(broken, "w b", "e")?;
+        self.says(broken, "no longer whole; ring: quota not had")?;
+        let kept = line(SECOND, 2);
+        self.sign("k", kept, SIGN)?;
+        self.says(kept, "ended; its share is still taken")?;
+        let refused = line(SECOND, 3);
+        self.words("z", refused.below(11), "no 3")?;
+        self.says(refused, "a call was turned away, and why")
+    }
 
-fn bracket(line: u32, class: &[u8], dot: &[u8], pen: &mut Pen) {
-    let shape = Bracket {
-        x: SECOND,
-        y: at(line).saturating_add(4),
-        width: SIGN,
-        foot: 6,
-        begins: true,
-        ends: true,
-    };
-    shape.draw(class, pen);
-    shapes::dot(dot, SECOND + SIGN - 6, at(line).saturating_add(4), 3, pen);
-}
+    fn window(&mut self, corner: Point, class: &str, dot: &str) -> fmt::Result {
+        let corner = corner.below(4);
+        let bracket = Bracket {
+            corner,
+            width: SIGN,
+            foot: 6,
+            begins: true,
+            ends: true,
+        };
+        self.path(class, bracket)?;
+        self.dot(dot, corner.right(SIGN - 6), 3)
+    }
 
-fn lending(pen: &mut Pen) {
-    sign(b"r", THIRD, 0, pen);
-    sign(b"h", THIRD, 0, pen);
-    shapes::numeral(b"n", THIRD + SIGN / 2, at(0).saturating_add(11), 2, pen);
-    says(THIRD, 0, b"its tick, but 2 runs in it", pen);
-    sign(b"o fo", THIRD, 1, pen);
-    shapes::numeral(b"n", THIRD + SIGN / 2, at(1).saturating_add(11), 0, pen);
-    says(THIRD, 1, b"it runs in a tick of 0", pen);
-    shapes::across(b"v", THIRD, at(2).saturating_add(8), SIGN, pen);
-    says(THIRD, 2, b"waits for a lock: lends its ticks", pen);
-    sign(b"m", THIRD, 3, pen);
-    says(THIRD, 3, b"somebody has the lock", pen);
+    fn lending(&mut self) -> fmt::Result {
+        let lent = line(THIRD, 0);
+        self.sign("r", lent, SIGN)?;
+        self.sign("h", lent, SIGN)?;
+        self.words("n", lent.right(SIGN / 2).below(11), 2)?;
+        self.says(lent, "its tick, but 2 runs in it")?;
+        let borrowed = line(THIRD, 1);
+        self.sign("o fo", borrowed, SIGN)?;
+        self.words("n", borrowed.right(SIGN / 2).below(11), 0)?;
+        self.says(borrowed, "it runs in a tick of 0")?;
+        let waiting = line(THIRD, 2);
+        let dashes = waiting.below(8);
+        self.path("v", format_args!("{dashes}h{SIGN}"))?;
+        self.says(waiting, "waits for a lock: lends its ticks")?;
+        let held = line(THIRD, 3);
+        self.sign("m", held, SIGN)?;
+        self.says(held, "somebody has the lock")
+    }
 }

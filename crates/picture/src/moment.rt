@@ -8,9 +8,9 @@ use windows::Window;
 #[derive(Drop)]
 pub struct Moment {
     places: [View; 64],
+    // by lock
     owners: [Option<TaskId>; 64],
-    whose: Option<TaskId>,
-    runs: Option<TaskId>,
+    turn: Option<(TaskId, TaskId)>,
 }
 
 const EMPTY: View = View {
@@ -23,27 +23,20 @@ const EMPTY: View = View {
 
 impl Moment {
     // The next tick of the scheduler, which then has passed.
-    pub fn next(scheduler: &mut Scheduler) -> Moment {
+    pub fn next(scheduler: &mut Scheduler) -> Self {
         let mut places = [EMPTY; 64];
-        let mut owners: [Option<TaskId>; 64] = [None; 64];
-        for k in 0..64u32 {
-            if let Some(i) = TaskId::new(k) {
-                places[i.index()] = scheduler.view(i);
-            }
-            if let Some(m) = LockId::new(k) {
-                owners[m.index()] = scheduler.owner_of(m);
-            }
+        for i in TaskId::all() {
+            places[i.index()] = scheduler.view(i);
+        }
+        let mut owners = [None; 64];
+        for m in LockId::all() {
+            owners[m.index()] = scheduler.owner_of(m);
         }
         let (whose, runs) = scheduler.pick();
-        let runner = match whose {
-            Some(_) => TaskId::new(runs),
-            None => None,
-        };
         Moment {
             places,
             owners,
-            whose: task(whose),
-            runs: runner,
+            turn: whose.and_then(task).zip(task(runs)),
         }
     }
 
@@ -51,24 +44,25 @@ impl Moment {
         self.places[i.index()]
     }
 
+    // Who is at the place, if anybody is.
+    pub fn occupant(&self, i: TaskId) -> Option<Occupant> {
+        match self.place(i).occupant {
+            Occupant::Nobody => None,
+            somebody => Some(somebody),
+        }
+    }
+
     pub fn owner(&self, m: LockId) -> Option<TaskId> {
         self.owners[m.index()]
     }
 
-    pub fn whose(&self) -> Option<TaskId> {
-        self.whose
-    }
-
-    // Who runs, if the tick is somebody's.
-    pub fn runs(&self) -> Option<TaskId> {
-        self.runs
+    // Whose it is, and who runs in it, if it is somebody's.
+    pub fn turn(&self) -> Option<(TaskId, TaskId)> {
+        self.turn
     }
 
     pub fn is_of(&self, i: TaskId) -> bool {
-        match self.whose {
-            Some(j) => j.index() == i.index(),
-            None => false,
-        }
+        self.turn.is_some_and(|(whose, _)| whose == i)
     }
 
     // What kind of task is there.
@@ -77,9 +71,6 @@ impl Moment {
     }
 }
 
-fn task(number: Option<u32>) -> Option<TaskId> {
-    match number {
-        Some(i) => TaskId::new(i),
-        None => None,
-    }
+fn task(number: u32) -> Option<TaskId> {
+    TaskId::try_from(number).ok()
 }

@@ -1,47 +1,52 @@
-// What a row is called.
-use crate::pen::Pen;
+// What things are called.
 use sched::Kind;
 use sched::view::Occupant;
+use std::fmt;
 
-pub fn kind(kind: Kind, pen: &mut Pen) {
-    match kind {
-        Kind::Reserved(quota, period) => {
-            pen.text(b"reserved ");
-            pen.number(quota);
-            pen.text(b" of ");
-            pen.number(period);
-        }
-        Kind::Fixed(rank) => {
-            pen.text(b"fixed, rank ");
-            pen.number(rank);
-        }
-        Kind::Fair(weight) => {
-            pen.text(b"fair, weight ");
-            pen.number(weight);
+#[derive(Clone, Copy)]
+pub struct KindName(pub Kind);
+
+impl fmt::Display for KindName {
+    fn fmt<W: fmt::Write>(&self, f: &mut fmt::Formatter<W>) -> fmt::Result {
+        match self.0 {
+            Kind::Reserved(quota, period) => write!(f, "reserved {quota} of {period}"),
+            Kind::Fixed(rank) => write!(f, "fixed, rank {rank}"),
+            Kind::Fair(weight) => write!(f, "fair, weight {weight}"),
         }
     }
 }
 
-pub fn occupant(occupant: Occupant, pen: &mut Pen) {
-    match occupant {
-        Occupant::Nobody => {}
-        Occupant::Task(promised) => kind(promised, pen),
-        Occupant::Kept(quota, period) => {
-            pen.text(b"ended, was ");
-            pen.number(quota);
-            pen.text(b" of ");
-            pen.number(period);
+#[derive(Clone, Copy)]
+pub struct OccupantName(pub Occupant);
+
+impl fmt::Display for OccupantName {
+    fn fmt<W: fmt::Write>(&self, f: &mut fmt::Formatter<W>) -> fmt::Result {
+        match self.0 {
+            Occupant::Nobody => Ok(()),
+            Occupant::Task(kind) => {
+                let name = KindName(kind);
+                write!(f, "{name}")
+            }
+            Occupant::Kept(quota, period) => write!(f, "ended, was {quota} of {period}"),
         }
     }
 }
 
-// So many of something, in words.
-pub fn many(n: u64, one: &[u8], more: &[u8], pen: &mut Pen) {
-    if n == 0 {
-        pen.text(b"no");
-    } else {
-        pen.long(n);
+// So many of something.
+#[derive(Clone, Copy)]
+pub struct Many {
+    pub n: u64,
+    pub one: &'static str,
+    pub more: &'static str,
+}
+
+impl fmt::Display for Many {
+    fn fmt<W: fmt::Write>(&self, f: &mut fmt::Formatter<W>) -> fmt::Result {
+        let Many { n, one, more } = *self;
+        match n {
+            0 => write!(f, "no {more}"),
+            1 => write!(f, "1 {one}"),
+            _ => write!(f, "{n} {more}"),
+        }
     }
-    pen.text(b" ");
-    pen.text(if n == 1 { one } else { more });
 }

@@ -1,127 +1,120 @@
 // The uppermost layer: calls that were turned away, on the time line, and who comes to a place after another.
+use crate::canvas::Canvas;
+use crate::drawing::Layer;
 use crate::lanes::Lanes;
 use crate::moment::Moment;
-use crate::pen::Pen;
-use crate::sheet::{AXIS, LANE, Sheet};
-use crate::{naming, shapes};
-use layout::{Scale, Spot};
+use crate::naming::KindName;
+use crate::shapes::Point;
+use crate::sheet::LANE;
 use quantities::ids::TaskId;
-use sched::view::Occupant;
 use sched::{Answer, Call, Kind};
+use script::sink::Sink;
+use std::fmt;
 
-// How much room a refusal takes on its lane.
-pub fn refusal_width(scale: Scale) -> u32 {
-    if scale.row().small { 14 } else { 30 }
+#[derive(Clone, Copy, Default)]
+struct Place {
+    // who was made since the last tick
+    made: Option<Kind>,
+    // somebody was there in this band
+    used: bool,
 }
 
 #[derive(Drop)]
 pub struct Notes {
     lanes: Lanes,
-    // who was made since the last tick
-    made: [Option<Kind>; 64],
-    // somebody was at the place in this band
-    used: [bool; 64],
+    places: [Place; 64],
 }
 
 impl Notes {
-    pub fn new() -> Notes {
+    pub fn new() -> Self {
         Notes {
-            lanes: Lanes::new(),
-            made: [None; 64],
-            used: [false; 64],
+            lanes: Lanes::default(),
+            places: [Place::default(); 64],
         }
     }
 
-    pub fn end_band(&mut self) {
-        self.lanes = Lanes::new();
-        self.used = [false; 64];
-    }
-
-    pub fn answered(
-        &mut self,
-        sheet: &Sheet,
-        spot: Spot,
-        call: Call,
-        answer: Answer,
-        pen: &mut Pen,
-    ) {
-        match answer {
-            Answer::Done => {}
-            Answer::Id(number) => self.note_made(call, number),
-            Answer::No(number) => self.refused(sheet, spot, number, pen),
-        }
-    }
-
-    fn note_made(&mut self, call: Call, number: u32) {
-        if let Call::Make(kind) = call {
-            if let Some(i) = TaskId::new(number) {
-                self.made[i.index()] = Some(kind);
-            }
-        }
-    }
-
-    fn refused(&mut self, sheet: &Sheet, spot: Spot, number: u32, pen: &mut Pen) {
-        let x = sheet.scale.x(spot.column);
-        let top = sheet.band(spot.band).top.saturating_add(AXIS);
-        shapes::down(b"Z", x, top.saturating_sub(4), 4, pen);
-        let Some(lane) = self.lanes.place(x, refusal_width(sheet.scale)) else {
-            return;
+    fn refused<S: Sink>(&mut self, canvas: &mut Canvas<S>, number: u32) -> fmt::Result {
+        let scale = canvas.sheet.scale;
+        let axis = Point {
+            x: scale.x(canvas.at.column),
+            y: canvas.sheet.band(canvas.at.band).axis(),
         };
-        let y = top
-            .saturating_add(lane.saturating_mul(LANE))
-            .saturating_add(11);
-        shapes::open(b"z", x, y, pen);
-        if !sheet.scale.row().small {
-            pen.text(b"no ");
+        let mark = axis.above(4);
+        canvas.pen.path("Z", format_args!("{mark}v4"))?;
+        let Some(lane) = self.lanes.place(scale, canvas.at.column) else {
+            return Ok(());
+        };
+        let base = axis.below(lane.saturating_mul(LANE)).below(11);
+        if scale.row().small {
+            return canvas.pen.words("z", base, number);
         }
-        pen.number(number);
-        shapes::close(pen);
+        canvas.pen.words("z", base, format_args!("no {number}"))
     }
 
-    pub fn tick(&mut self, sheet: &Sheet, spot: Spot, moment: &Moment, pen: &mut Pen) {
-        for k in 0..64u32 {
-            if let Some(i) = TaskId::new(k) {
-                self.look(sheet, spot, i, moment, pen);
+    fn tick<S: Sink>(&mut self, canvas: &mut Canvas<S>, moment: &Moment) -> fmt::Result {
+        for i in TaskId::all() {
+            if moment.occupant(i).is_none() {
+                continue;
             }
+            let place = &mut self.places[i.index()];
+            let made = place.made.take();
+            if let Some(kind) = made.filter(|_| place.used) {
+                canvas.renamed(i, kind)?;
+            }
+            place.used = true;
         }
+        Ok(())
     }
 
-    fn look(&mut self, sheet: &Sheet, spot: Spot, i: TaskId, moment: &Moment, pen: &mut Pen) {
-        match moment.place(i).occupant {
-            Occupant::Nobody => return,
-            Occupant::Task(_) => {}
-            Occupant::Kept(_, _) => {}
+    fn end_band(&mut self) {
+        self.lanes = Lanes::default();
+        for place in &mut self.places {
+            place.used = false;
         }
-        if let Some(kind) = self.made[i.index()] {
-            if self.used[i.index()] {
-                rename(sheet, spot, i, kind, pen);
-            }
-        }
-        self.made[i.index()] = None;
-        self.used[i.index()] = true;
     }
 }
 
-// Another task has come to the place.
-fn rename(sheet: &Sheet, spot: Spot, i: TaskId, kind: Kind, pen: &mut Pen) {
-    let row = sheet.scale.row();
-    let x = sheet.scale.x(spot.column);
-    let y = sheet.task(spot.band, i);
-    shapes::down(
-        b"g",
-        x,
-        y.saturating_add(2),
-        row.height.saturating_sub(4),
-        pen,
-    );
-    shapes::plate(x.saturating_add(56), y.saturating_add(row.bracket), 18, pen);
-    shapes::open(
-        b"q c",
-        x.saturating_add(4),
-        y.saturating_add(row.bracket).saturating_add(3),
-        pen,
-    );
-    pen.text(b"now ");
-    naming::kind(kind, pen);
-    shapes::close(pen);
+impl Layer for Notes {
+    fn answered<S: Sink>(
+        &mut self,
+        canvas: &mut Canvas<S>,
+        call: Call,
+        answer: Answer,
+    ) -> fmt::Result {
+        match (answer, call) {
+            (Answer::Id(number), Call::Make(kind)) => {
+                if let Ok(i) = TaskId::try_from(number) {
+                    self.places[i.index()].made = Some(kind);
+                }
+                Ok(())
+            }
+            (Answer::No(number), _) => self.refused(canvas, number),
+            _ => Ok(()),
+        }
+    }
+
+    fn turn<S: Sink>(&mut self, canvas: &mut Canvas<S>, moment: Option<&Moment>) -> fmt::Result {
+        match moment {
+            Some(moment) => self.tick(canvas, moment),
+            None => {
+                self.end_band();
+                Ok(())
+            }
+        }
+    }
+}
+
+impl<S: Sink> Canvas<'_, S> {
+    // Another task has come to the place.
+    fn renamed(&mut self, i: TaskId, kind: Kind) -> fmt::Result {
+        let row = self.sheet.scale.row();
+        let corner = self.sheet.task(self.at, i);
+        let top = corner.below(2);
+        let height = row.height.saturating_sub(4);
+        self.pen.path("g", format_args!("{top}v{height}"))?;
+        let middle = corner.below(row.bracket);
+        self.pen.plate(middle.right(56), 18)?;
+        let name = KindName(kind);
+        self.pen.words("q c", middle.right(4).below(3), format_args!("now {name}"))
+    }
 }

@@ -1,66 +1,88 @@
-// Writes the elements of the picture, each on a line of its own, onto a page that is handed on now and then.
-ghost use Rattle.std.specs.Prelude.{◌+◌, ◌≤◌, length, decimal};
-ghost use Rattle.script.specs.Printed.{Wrote};
+// Writes the elements of the picture, each on a line of its own. What was written is handed on when no more finds room.
+ghost use Rattle.std.specs.Prelude.{◌≡◌, ℕ, ◌+◌, ◌≤◌, List, [], ◌++◌, length, IsOk};
+ghost use Rattle.arrayvec.specs.ArrayString.{array_string_len};
 
-use script::page::Page;
+use crate::shapes::{Area, Point};
+use arrayvec::ArrayString;
 use script::sink::{Sink, Stopped};
+use std::fmt;
+use std::fmt::{Display, Write};
 
-// When so many elements stand on the page, it is handed on. They take up a small part of it, and what is drawn between
-// two looks takes up no more than the rest.
-const MANY: u32 = 64;
+// Room for many elements.
+const ROOM: usize = 65536;
 
-// It knows nothing of where the text goes, so that whoever draws needn't either.
 #[derive(Drop)]
-pub struct Pen {
-    page: Page,
-    // elements on the page
-    elements: u32,
+pub struct Pen<'a, S: Sink> {
+    written: ArrayString<ROOM>,
+    out: &'a mut S,
 }
 
-impl Pen {
-    pub fn new() -> Pen {
+impl<S: Sink> Write for Pen<'_, S> {
+    ghost use Rattle.picture.specs.Drawn.{Drawn};
+
+    // Nothing is lost, and nothing else is put in.
+    ghost write_str_gives = { λ p text q. (xs : List ℕ) → Drawn S.took p.out.now p.written.bytes xs → Drawn S.took q.out.now q.written.bytes (xs ++ text) };
+
+    // Where there is no room, it fails if what was written can't be handed on, or if the text is longer than there is ever room.
+    fn write_str(&mut self, text: &str) -> fmt::Result
+        ensures ok { IsOk result → (xs : List ℕ) → Drawn S.took self.old.out.now self.old.written.bytes xs → Drawn S.took self.new.out.now self.new.written.bytes (xs ++ text.now) }
+        ensures fits { array_string_len self.old.written + length text.now ≤ 65536 → IsOk result }
+    {
+        if self.written.remaining_capacity() < text.len() {
+            self.hand_on().map_err(|_| fmt::Error)?;
+        }
+        self.written.write_str(text)
+    }
+}
+
+impl<'a, S: Sink> Pen<'a, S> {
+    ghost use Rattle.picture.specs.Drawn.{Drawn};
+
+    pub fn new(out: &'a mut S) -> Self {
         Pen {
-            page: Page::new(),
-            elements: 0,
+            written: ArrayString::new(),
+            out,
         }
     }
 
-    pub fn text(&mut self, text: &[u8])
-        ensures { self.old.page.len + length text.now ≤ 65536 → Wrote self.old.page self.new.page text.now }
+    // Hands on what was written.
+    pub fn hand_on(&mut self) -> Result<(), Stopped>
+        ensures empty { IsOk result → self.new.written.bytes ≡ [] }
+        ensures taken { IsOk result → (xs : List ℕ) → Drawn S.took self.old.out.now self.old.written.bytes xs → S.took self.new.out.now xs }
     {
-        self.page.text(text);
+        self.out.take(self.written.as_str().as_bytes())?;
+        self.written.clear();
+        Ok(())
     }
 
-    // In decimal digits.
-    pub fn number(&mut self, n: u32)
-        ensures { self.old.page.len + 20 ≤ 65536 → Wrote self.old.page self.new.page (decimal n) }
-    {
-        self.page.number(u64::from(n));
+    pub fn path<C: Display + Drop, D: Display + Drop>(&mut self, class: C, data: D) -> fmt::Result {
+        writeln!(self, "<path class=\"{class}\" d=\"{data}\"/>")
     }
 
-    pub fn long(&mut self, n: u64)
-        ensures { self.old.page.len + 20 ≤ 65536 → Wrote self.old.page self.new.page (decimal n) }
-    {
-        self.page.number(n);
+    pub fn dot(&mut self, class: &str, centre: Point, radius: u32) -> fmt::Result {
+        let Point { x, y } = centre;
+        writeln!(
+            self,
+            "<circle class=\"{class}\" cx=\"{x}\" cy=\"{y}\" r=\"{radius}\"/>"
+        )
     }
 
-    // The element ends.
-    pub fn end(&mut self) {
-        self.page.put(b'\n');
-        self.elements = self.elements.saturating_add(1);
+    pub fn words<T: Display + Drop>(&mut self, class: &str, at: Point, text: T) -> fmt::Result {
+        let Point { x, y } = at;
+        writeln!(
+            self,
+            "<text class=\"{class}\" x=\"{x}\" y=\"{y}\">{text}</text>"
+        )
     }
 
-    // Hands on what was drawn, if that is much.
-    pub fn hand_on_much<S: Sink>(&mut self, out: &mut S) -> Result<(), Stopped> {
-        if self.elements < MANY {
-            return Ok(());
-        }
-        self.hand_on(out)
-    }
-
-    // Hands on what was drawn.
-    pub fn hand_on<S: Sink>(&mut self, out: &mut S) -> Result<(), Stopped> {
-        self.elements = 0;
-        self.page.flush(out)
+    // A white plate around this point, on which words of so many letters can be read.
+    pub fn plate(&mut self, middle: Point, letters: u32) -> fmt::Result {
+        let half = letters.saturating_mul(3);
+        let area = Area {
+            corner: middle.left(half).above(5),
+            width: half.saturating_mul(2),
+            height: 10,
+        };
+        self.path("P", area)
     }
 }

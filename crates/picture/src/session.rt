@@ -15,9 +15,10 @@ pub trait Viewer {
 }
 
 #[derive(Drop)]
-struct Session {
+struct Session<'a, V: Viewer> {
     scheduler: Scheduler,
     line: Line,
+    viewer: &'a mut V,
 }
 
 // Plays the whole script, or as much of it as the viewer wants to see.
@@ -25,75 +26,76 @@ pub fn play<V: Viewer>(script: &[u8], viewer: &mut V) {
     let mut session = Session {
         scheduler: Scheduler::new(),
         line: Line::new(),
+        viewer,
     };
-    for k in 0..script.len() {
-        if viewer.is_done() {
+    for byte in script {
+        if session.viewer.is_done() {
             return;
         }
-        session.take(script[k], viewer);
+        session.take(*byte);
     }
     if session.line.is_begun() {
-        session.end_line(viewer);
+        session.end_line();
     }
 }
 
-impl Session {
-    fn take<V: Viewer>(&mut self, byte: u8, viewer: &mut V) {
+impl<V: Viewer> Session<'_, V> {
+    fn take(&mut self, byte: u8) {
         if byte == b'\n' {
-            self.end_line(viewer);
+            self.end_line();
         } else {
             self.line.push(byte);
         }
     }
 
     // A line that is no command is answered by `stage`, and changes nothing.
-    fn end_line<V: Viewer>(&mut self, viewer: &mut V) {
+    fn end_line(&mut self) {
         let asked = self.line.command();
         self.line = Line::new();
         if let Some(command) = asked {
-            self.perform(command, viewer);
+            self.perform(command);
         }
     }
 
-    fn perform<V: Viewer>(&mut self, command: Command, viewer: &mut V) {
+    fn perform(&mut self, command: Command) {
         match command {
-            Command::Call(call) => self.call(call, viewer),
-            Command::Tick(many) => self.ticks(many, viewer),
+            Command::Call(call) => self.call(call),
+            Command::Tick(many) => self.ticks(many),
             Command::Had => {}
-            Command::Any(seed, many) => self.any(seed, many, viewer),
+            Command::Any(seed, many) => self.any(seed, many),
         }
     }
 
-    fn ticks<V: Viewer>(&mut self, many: u32, viewer: &mut V) {
-        for _k in 0..many {
-            if viewer.is_done() {
+    fn ticks(&mut self, many: u32) {
+        for _ in 0..many {
+            if self.viewer.is_done() {
                 return;
             }
-            self.tick(viewer);
+            self.tick();
         }
     }
 
-    fn any<V: Viewer>(&mut self, seed: u32, many: u32, viewer: &mut V) {
+    fn any(&mut self, seed: u32, many: u32) {
         let mut generator = Generator::new(seed);
-        for _k in 0..many {
-            if viewer.is_done() {
+        for _ in 0..many {
+            if self.viewer.is_done() {
                 return;
             }
             match generator.next_step() {
-                Next::Calls(call) => self.call(call, viewer),
-                Next::Tick => self.tick(viewer),
+                Next::Calls(call) => self.call(call),
+                Next::Tick => self.tick(),
                 Next::Over => {}
             }
         }
     }
 
-    fn call<V: Viewer>(&mut self, call: Call, viewer: &mut V) {
+    fn call(&mut self, call: Call) {
         let answer = self.scheduler.call(call);
-        viewer.answered(call, answer);
+        self.viewer.answered(call, answer);
     }
 
-    fn tick<V: Viewer>(&mut self, viewer: &mut V) {
+    fn tick(&mut self) {
         let moment = Moment::next(&mut self.scheduler);
-        viewer.tick(&moment);
+        self.viewer.tick(&moment);
     }
 }

@@ -1,5 +1,5 @@
 // What is to be drawn, and where: the bands, and the rows of each.
-use crate::shapes::Area;
+use crate::shapes::{Area, Point};
 use crate::survey::Tally;
 use layout::{MOST_BANDS, Scale, Spot, Stretch};
 use quantities::ids::{LockId, TaskId};
@@ -20,105 +20,103 @@ pub const IDLE: u32 = 20;
 // Between two bands.
 pub const GAP: u32 = 26;
 
-// Which of 64 have a row.
-#[derive(Clone, Copy)]
+// Which of 64 have a row: a bit for each.
+#[derive(Clone, Copy, Default)]
 pub struct Rows {
-    shown: [bool; 64],
+    shown: u64,
 }
 
 impl Rows {
-    pub fn new() -> Rows {
-        Rows { shown: [false; 64] }
+    pub fn show(&mut self, m: LockId) {
+        self.shown |= bit(m);
     }
 
-    pub fn show(&mut self, index: usize) {
-        if index < 64 {
-            self.shown[index] = true;
-        }
+    pub fn has(self, m: LockId) -> bool {
+        self.shown & bit(m) != 0
     }
 
-    pub fn has(&self, index: usize) -> bool {
-        index < 64 && self.shown[index]
+    // How many rows there are before that of this lock.
+    pub fn before(self, m: LockId) -> u32 {
+        (self.shown & !(u64::MAX << m.index())).count_ones()
     }
 
-    // How many rows there are before that of this index.
-    pub fn before(&self, index: usize) -> u32 {
-        let mut rows: u32 = 0;
-        for k in 0..64usize {
-            if k < index && self.shown[k] {
-                rows = rows.saturating_add(1);
-            }
-        }
-        rows
+    pub fn count(self) -> u32 {
+        self.shown.count_ones()
     }
+}
 
-    pub fn count(&self) -> u32 {
-        self.before(64)
-    }
+fn bit(m: LockId) -> u64 {
+    1 << m.index()
 }
 
 #[derive(Clone, Copy)]
 pub struct Band {
+    scale: Scale,
     pub top: u32,
-    pub tasks: Rows,
+    // who was first seen at each place: it has a row
+    pub names: [Option<Occupant>; 64],
     pub locks: Rows,
     pub idle: bool,
     // how many lanes the refusals need
     pub lanes: u32,
-    // who was first seen at each place
-    pub names: [Occupant; 64],
 }
 
 impl Band {
-    pub fn new() -> Band {
+    pub fn new(scale: Scale) -> Self {
         Band {
+            scale,
             top: HEAD,
-            tasks: Rows::new(),
-            locks: Rows::new(),
+            names: [None; 64],
+            locks: Rows::default(),
             idle: false,
             lanes: 0,
-            names: [Occupant::Nobody; 64],
         }
     }
 
+    // Where words stand that go with the numbers of ticks.
+    pub fn axis(&self) -> u32 {
+        self.top.saturating_add(AXIS)
+    }
+
     // The top of the first row.
-    pub fn rows(&self) -> u32 {
-        self.top
-            .saturating_add(AXIS)
-            .saturating_add(self.lanes.saturating_mul(LANE))
+    fn rows(&self) -> u32 {
+        self.axis().saturating_add(self.lanes.saturating_mul(LANE))
     }
 
-    pub fn task(&self, i: TaskId, scale: Scale) -> u32 {
-        self.under(self.tasks.before(i.index()), scale)
+    pub fn task(&self, i: TaskId) -> u32 {
+        self.under(&self.names[..i.index()])
     }
 
-    // The top of what comes under so many rows of tasks.
-    fn under(&self, tasks: u32, scale: Scale) -> u32 {
-        self.rows()
-            .saturating_add(tasks.saturating_mul(scale.row().height))
+    // The top of what comes under the rows of these places.
+    fn under(&self, places: &[Option<Occupant>]) -> u32 {
+        let height = self.scale.row().height;
+        places
+            .iter()
+            .flatten()
+            .fold(self.rows(), |top, _| top.saturating_add(height))
     }
 
     // The row of ticks that are nobody's.
-    pub fn nobody(&self, scale: Scale) -> u32 {
-        self.under(self.tasks.count(), scale)
+    pub fn nobody(&self) -> u32 {
+        self.under(&self.names)
     }
 
-    fn first_lock(&self, scale: Scale) -> u32 {
+    fn first_lock(&self) -> u32 {
         let idle = if self.idle { IDLE } else { 0 };
-        self.nobody(scale).saturating_add(idle)
+        self.nobody().saturating_add(idle)
     }
 
-    pub fn lock(&self, m: LockId, scale: Scale) -> u32 {
-        self.first_lock(scale).saturating_add(
-            self.locks
-                .before(m.index())
-                .saturating_mul(scale.row().lock),
-        )
+    pub fn lock(&self, m: LockId) -> u32 {
+        self.under_locks(self.locks.before(m))
     }
 
-    pub fn bottom(&self, scale: Scale) -> u32 {
-        self.first_lock(scale)
-            .saturating_add(self.locks.count().saturating_mul(scale.row().lock))
+    fn under_locks(&self, locks: u32) -> u32 {
+        self.first_lock()
+            .saturating_add(locks.saturating_mul(self.scale.row().lock))
+    }
+
+    pub fn bottom(&self) -> u32 {
+        self.under_locks(self.locks.count())
     }
 }
 
@@ -126,26 +124,22 @@ impl Band {
 pub struct Sheet {
     pub tally: Tally,
     pub scale: Scale,
-    pub bands: [Band; 25],
+    pub bands: [Band; MOST_BANDS],
 }
 
 impl Sheet {
     // Puts each band under the one before it.
     pub fn stack(&mut self) {
-        let scale = self.scale;
         let mut top = HEAD;
-        for k in 0..25usize {
-            let mut band = self.bands[k];
+        for band in &mut self.bands {
             band.top = top;
-            top = band.bottom(scale).saturating_add(GAP);
-            self.bands[k] = band;
+            top = band.bottom().saturating_add(GAP);
         }
     }
 
     // How many bands there are: one even for an evening without a tick.
     pub fn many(&self) -> u32 {
-        let ticks = self.tally.drawn();
-        let last = if ticks == 0 { 0 } else { ticks - 1 };
+        let last = self.tally.drawn().saturating_sub(1);
         self.scale.spot(last).band.saturating_add(1)
     }
 
@@ -154,15 +148,17 @@ impl Sheet {
         seen >= self.tally.drawn() && self.tally.ticks > u64::from(seen)
     }
 
+    // The end of the last of so many ticks.
+    pub fn end(&self, seen: u32) -> Option<Spot> {
+        let last = seen.checked_sub(1)?;
+        Some(self.scale.spot(last).after())
+    }
+
     // Where a call after so many ticks is noted: before the next tick, or at the end.
     pub fn boundary(&self, seen: u32) -> Spot {
-        if seen == 0 || seen < self.tally.drawn() {
-            return self.scale.spot(seen);
-        }
-        let last = self.scale.spot(seen - 1);
-        Spot {
-            band: last.band,
-            column: last.column.saturating_add(1),
+        match self.end(seen) {
+            Some(end) if seen >= self.tally.drawn() => end,
+            _ => self.scale.spot(seen),
         }
     }
 
@@ -175,29 +171,37 @@ impl Sheet {
     pub fn boxed(&self, i: TaskId, stretch: Stretch) -> Area {
         let row = self.scale.row();
         Area {
-            x: stretch.x(self.scale),
-            y: self.task(stretch.band, i).saturating_add(row.boxes),
+            corner: self.task(stretch.start(), i).below(row.boxes),
             width: stretch.width(self.scale),
             height: row.depth,
         }
     }
 
-    pub fn task(&self, band: u32, i: TaskId) -> u32 {
-        self.band(band).task(i, self.scale)
+    // The top of the row of a task, at the beginning of a tick.
+    pub fn task(&self, at: Spot, i: TaskId) -> Point {
+        Point {
+            x: self.scale.x(at.column),
+            y: self.band(at.band).task(i),
+        }
     }
 
-    pub fn lock(&self, band: u32, m: LockId) -> u32 {
-        self.band(band).lock(m, self.scale)
+    pub fn lock(&self, at: Spot, m: LockId) -> Point {
+        Point {
+            x: self.scale.x(at.column),
+            y: self.band(at.band).lock(m),
+        }
+    }
+
+    // The top of the row of ticks that are nobody's.
+    pub fn nobody(&self, at: Spot) -> Point {
+        Point {
+            x: self.scale.x(at.column),
+            y: self.band(at.band).nobody(),
+        }
     }
 
     pub fn band(&self, k: u32) -> &Band {
-        let last = MOST_BANDS - 1;
-        let at = k as usize;
-        if at < last {
-            &self.bands[at]
-        } else {
-            &self.bands[last]
-        }
+        &self.bands[(k as usize).min(MOST_BANDS - 1)]
     }
 
     // How many ticks there are in the band.
@@ -210,7 +214,7 @@ impl Sheet {
     }
 
     // Where time ends in the widest band.
-    pub fn right(&self) -> u32 {
+    fn right(&self) -> u32 {
         self.scale.x(self.columns(0))
     }
 
@@ -220,6 +224,6 @@ impl Sheet {
 
     pub fn height(&self) -> u32 {
         let last = self.many().saturating_sub(1);
-        self.band(last).bottom(self.scale).saturating_add(GAP)
+        self.band(last).bottom().saturating_add(GAP)
     }
 }
