@@ -7,13 +7,13 @@ use Rattle.layout.specs.declared.Scale.TheVariants.{Wide, Middle, Narrow, Fine}
 abbrev pub scale_of : ℕ → Scale
 scale_of n = cond (leb n 40) Wide (cond (leb n 160) Middle (cond (leb n 640) Narrow Fine))
 
-unfoldable pub tick_width : Scale → ℕ
+abbrev pub tick_width : Scale → ℕ
 tick_width Wide = 24
 tick_width Middle = 12
 tick_width Narrow = 8
 tick_width Fine = 6
 
-unfoldable pub per_band : Scale → ℕ
+abbrev pub per_band : Scale → ℕ
 per_band Wide = 40
 per_band Middle = 80
 per_band Narrow = 120
