@@ -8,7 +8,7 @@ use crate::shapes::{Bracket, Point, digits};
 use layout::Spot;
 use quantities::ids::TaskId;
 use sched::Kind;
-use sched::view::{Occupant, View};
+use sched::view::Occupant;
 use script::sink::Sink;
 use std::fmt;
 use windows::Span;
@@ -26,10 +26,11 @@ struct WindowInTick {
 }
 
 impl WindowInTick {
-    // In the tick that begins with this view: a window opens if the task wants the tick and has none.
-    fn of(view: View, mine: bool) -> Option<Self> {
+    // A window opens if the task wants the tick and has none.
+    fn of(moment: &Moment, i: TaskId) -> Option<Self> {
+        let view = moment.place(i);
         let (quota, period, mine) = match view.occupant {
-            Occupant::Task(Kind::Reserved(quota, period)) => (quota, period, mine),
+            Occupant::Task(Kind::Reserved(quota, period)) => (quota, period, moment.is_of(i)),
             Occupant::Kept(quota, period) => (quota, period, false),
             _ => return None,
         };
@@ -95,10 +96,7 @@ impl Brackets {
 impl Layer for Brackets {
     fn turn<S: Sink>(&mut self, canvas: &mut Canvas<S>, moment: Option<&Moment>) -> fmt::Result {
         for i in TaskId::all() {
-            let window = moment.and_then(|moment| WindowInTick::of(
-                moment.place(i),
-                moment.is_of(i),
-            ));
+            let window = moment.and_then(|moment| WindowInTick::of(moment, i));
             let next = window.map(|window| Piece {
                 whole: window.is_whole(),
                 begins: window.opens(),

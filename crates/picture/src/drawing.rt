@@ -7,6 +7,7 @@ use script::sink::Sink;
 use std::fmt;
 
 pub trait Layer: Drop {
+    // What a call was answered, of which most layers show nothing.
     fn answered<S: Sink>(
         &mut self,
         _canvas: &mut Canvas<S>,

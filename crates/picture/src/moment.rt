@@ -7,6 +7,7 @@ use windows::Window;
 
 #[derive(Drop)]
 pub struct Moment {
+    // by task
     places: [View; 64],
     // by lock
     owners: [Option<TaskId>; 64],

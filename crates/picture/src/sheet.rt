@@ -6,10 +6,10 @@ use quantities::ids::{LockId, TaskId};
 use sched::view::Occupant;
 
 // Height of what stands above the first band.
-pub const HEAD: u32 = 184;
+const HEAD: u32 = 184;
 
 // Height of the numbers of ticks above each band.
-pub const AXIS: u32 = 20;
+const AXIS: u32 = 20;
 
 // Height of a lane of refusals.
 pub const LANE: u32 = 14;
@@ -18,9 +18,9 @@ pub const LANE: u32 = 14;
 pub const IDLE: u32 = 20;
 
 // Between two bands.
-pub const GAP: u32 = 26;
+const GAP: u32 = 26;
 
-// Which of 64 have a row: a bit for each.
+// Which locks have a row: a bit for each.
 #[derive(Clone, Copy, Default)]
 pub struct Rows {
     shown: u64,
@@ -73,7 +73,7 @@ impl Band {
         }
     }
 
-    // Where words stand that go with the numbers of ticks.
+    // Where the numbers of ticks end.
     pub fn axis(&self) -> u32 {
         self.top.saturating_add(AXIS)
     }
