@@ -21,6 +21,7 @@ impl<S: Sink> Canvas<'_, S> {
         )?;
         self.title()?;
         self.pen.legend()?;
+        // not every band of the sheet is drawn, and its number is what its ticks are counted from
         for k in 0..self.sheet.many() {
             self.band(k)?;
         }

@@ -14,6 +14,7 @@ impl Lanes {
         let width = if scale.row().small { 14 } else { 30 };
         let lane = self.ends.iter().position(|end| *end <= x)?;
         self.ends[lane] = x.saturating_add(width);
+        // below 3; a conversion that may fail would say less
         Some(lane as u32)
     }
 }

@@ -9,7 +9,7 @@ use windows::Window;
 pub struct Moment {
     // by task
     places: [View; 64],
-    // by lock
+    // by lock: a lock is no place, so this is no second column of the places
     owners: [Option<TaskId>; 64],
     turn: Option<(TaskId, TaskId)>,
 }

@@ -69,6 +69,7 @@ pub struct Bracket {
     pub corner: Point,
     pub width: u32,
     pub foot: u32,
+    // each end has its foot or not, whatever the other has: two tests say it more plainly than a type of four cases
     pub begins: bool,
     pub ends: bool,
 }
