@@ -20,6 +20,7 @@ pub fn wendrifoy_play(script: &[u8], transcript: &mut [u8]) -> u64
     ensures { (result ≡ 18446744073709551615) ⊎ Transcribed script.now transcript.old transcript.new result }
 {
     let mut out = Transcript::new(transcript);
+    // A match, since with `map_or` the proof didn't close.
     match play(script, &mut out) {
         Ok(()) => out.len() as u64,
         Err(Stopped) => REFUSED,

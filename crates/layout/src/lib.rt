@@ -24,6 +24,7 @@ pub enum Scale {
 }
 
 impl Scale {
+    // No `From`: a scale is chosen for so many ticks, they aren't converted.
     pub fn of(ticks: u32) -> Scale
         ensures { result ≡ scale_of ticks }
     {

@@ -29,7 +29,8 @@ pub fn play_into<'a, S: AsStep, E: AsEntry>(script: &'a [S], log: &'a mut [E]) -
     w.len()
 }
 
-// The hours of this world: so many turns, or as many as there are steps and room.
+// The hours of this world: so many turns, or as many as there are steps and room. A loop of its own, since the text of `hours`
+// is fixed and it ensures nothing.
 fn play<'a, S: AsStep, E: AsEntry>(w: &mut LentRecorder<'a, S, E>, many: u64)
     requires begins { w.old.used ≡ 0 }
     ensures { Ended S.step E.entry w.old w.new many }

@@ -19,6 +19,7 @@ enum Tint {
 }
 
 impl Tint {
+    // No `From`, as for `Class::of`.
     fn of(view: View) -> Option<Self> {
         match view.occupant {
             Occupant::Nobody => None,

@@ -21,6 +21,7 @@ impl From<Kind> for Class {
 }
 
 impl Class {
+    // No `From`: a crate can't give one for an Option of its own type.
     pub fn of(occupant: Occupant) -> Option<Self> {
         match occupant {
             Occupant::Task(kind) => Some(kind.into()),
