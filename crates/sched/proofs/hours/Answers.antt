@@ -1,11 +1,8 @@
 -- The scheduler stands for the world's house: so what it answers is what the call comes to, and the tick that it picks may be.
-use Rattle.std.proofs.Common.{sym, subst, arith}
+use Rattle.std.proofs.Common.{sym, subst}
 use Rattle.sched.specs.House.{goes_on'}
 use Rattle.sched.specs.Stores.{Holds}
 use Rattle.sched.proofs.hours.Goals as goal
-
-pub loop-n-init : goal.loop-n-init
-loop-n-init g c = subst (Holds c.new-s.result) (sym c.requires.begins) c.new-s.ensures
 
 -- to ask what comes next leaves the house as it is
 pub told-requires : goal.told-requires
@@ -20,18 +17,7 @@ runs-requires g c =
     let stands = subst (Holds c.loop-n.s) (sym c.next.ensures.0) c.loop-n.invariant in
     (c.in-Tick.ensures.1 tt, (c.pick-t.ensures (g.W.World.house c.next.new.self) stands).0)
 
-pub loop-n-preserved-in-Calls : goal.loop-n-preserved-in-Calls
-loop-n-preserved-in-Calls g c =
-    let stands = subst (Holds c.loop-n.s) (sym c.next.ensures.0) c.loop-n.invariant in
-    subst (Holds c.call-a.new.self) (sym c.told.ensures.0) (c.call-a.ensures.answered (g.W.World.house c.next.new.self) stands).1
-
 pub loop-n-preserved : goal.loop-n-preserved
 loop-n-preserved g c =
     let stands = subst (Holds c.loop-n.s) (sym c.next.ensures.0) c.loop-n.invariant in
     subst (Holds c.pick-t.new.self) (sym c.runs.ensures.0) (c.pick-t.ensures (g.W.World.house c.next.new.self) stands).1
-
-pub loop-n-smaller-in-Calls : goal.loop-n-smaller-in-Calls
-loop-n-smaller-in-Calls g c = omega arith
-
-pub loop-n-smaller : goal.loop-n-smaller
-loop-n-smaller g c = omega arith

@@ -1,15 +1,10 @@
 -- Each place is asked in its turn; then the mark is raised.
-use Rattle.std.proofs.Common.{◌≡◌, ◌+◌, sym, ◌∙◌, subst, inl, inr, rules}
+use Rattle.std.proofs.Common.{◌≡◌, ◌+◌, sym, ◌∙◌, subst, inl, inr}
 use Rattle.sched.specs.House.{fair_wants, opened}
 use Rattle.sched.specs.Begun.{Begins}
 use Rattle.sched.proofs.positions.Beginning.{begins-first, asked}
 use Rattle.sched.proofs.fair.Fair.begin.Goals as goal
 use Rattle.sched.proofs.fair.Fair.begin.Goals.{then-is_fair, else-is_fair}
-
-pub loop-i-init : goal.loop-i-init
-loop-i-init c base h comes slots wanting begins =
-    let e : c.into_iter-i-iterator.result.next ≡ 0 = search rules in
-    rw e begins
 
 pub loop-i-preserved : goal.loop-i-preserved
 loop-i-preserved c base h comes slots wanting begins =

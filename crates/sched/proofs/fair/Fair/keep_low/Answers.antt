@@ -1,10 +1,7 @@
 -- What is taken off the mark and all positions goes to the base.
 use Rattle.std.proofs.Common.{◌≤◌, ◌+◌, arith}
-use Rattle.sched.proofs.positions.Lowering.{lowers-none, lowers-more, lowers-all, mark-lowered}
+use Rattle.sched.proofs.positions.Lowering.{lowers-more, lowers-all, mark-lowered}
 use Rattle.sched.proofs.fair.Fair.keep_low.Goals as goal
-
-pub loop-position-init : goal.loop-position-init
-loop-position-init c base place far rest all = lowers-none all
 
 pub loop-position-preserved : goal.loop-position-preserved
 loop-position-preserved c base place far rest all =

@@ -1,4 +1,4 @@
-use Rattle.std.proofs.Common.{sym, ap, ◌∙◌, ◌≡◌, ⊎_elim, arith, rules}
+use Rattle.std.proofs.Common.{sym, ap, ◌∙◌, ⊎_elim, arith}
 use Rattle.std.proofs.lemmas.Bool.{cases_eq}
 use Rattle.sched.specs.House.{in_turn, rank_wants}
 use Rattle.sched.specs.Stores.{of_rank}
@@ -7,11 +7,6 @@ use Rattle.sched.proofs.TurnKept.{ranks}
 use Rattle.sched.proofs.Walks.{turn-kept}
 use Rattle.sched.proofs.RankTurns.{first-in-rank, no-rank, owner-none}
 use Rattle.sched.proofs.fixed.FixedClass.candidate.Goals as goal
-
-pub loop-rank-init : goal.loop-rank-init
-loop-rank-init c h asks turn r l =
-    let e : c.into_iter-rank-iterator.result.next ≡ 0 = search rules in
-    absurd (omega (arith, e))
 
 pub returns-then-is_some : goal.returns-then-is_some
 returns-then-is_some c h slots asks (turn, once) =

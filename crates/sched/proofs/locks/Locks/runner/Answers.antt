@@ -1,12 +1,9 @@
 -- Each turn is one step along the chain; a step more changes nothing at its end.
-use Rattle.std.proofs.Common.{◌≡◌, ◌-◌, sym, refl, ap, ◌∙◌, arith}
+use Rattle.std.proofs.Common.{◌≡◌, ◌-◌, sym, ap, ◌∙◌, arith}
 use Rattle.sched.specs.House.{runner}
 use Rattle.sched.proofs.model.Runner.{runner-self}
 use Rattle.sched.proofs.Waiting.{runner-steps}
 use Rattle.sched.proofs.locks.Locks.runner.Goals as goal
-
-pub loop-step-init : goal.loop-step-init
-loop-step-init c h k = refl
 
 pub loop-step-preserved : goal.loop-step-preserved
 loop-step-preserved c h k =

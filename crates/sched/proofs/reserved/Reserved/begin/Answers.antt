@@ -1,8 +1,8 @@
-use Rattle.std.proofs.Common.{◌≡◌, sym, ap, ◌∙◌, arith, rules}
+use Rattle.std.proofs.Common.{◌≡◌, sym, ap, ◌∙◌, arith}
 use Rattle.sched.specs.declared.tasks.Slot.TheVariants as slot
 use Rattle.sched.specs.House.{windowed}
 use Rattle.sched.specs.Stores.{Reads, place_of, window_of, shut}
-use Rattle.sched.proofs.Upto.{upto, upto-none, upto-here, upto-set, upto_all, reads-past}
+use Rattle.sched.proofs.Upto.{upto, upto-here, upto-set, upto_all, reads-past}
 use Rattle.sched.proofs.Passing.{begin-past}
 use Rattle.sched.proofs.reserved.Reserved.begin.Goals as goal
 
@@ -21,8 +21,3 @@ returns c h slots asks windows =
     let inv : Reads window_of shut c.loop-i.self.windows (upto 64 (windowed h).window h.window) = rw e at (c.loop-i.invariant h slots asks windows) in
     upto_all (windowed h).window h.window window_of shut c.loop-i.self.windows 64
     (λ k l. begin-past h k (reads-past place_of slot.Free slots k l) (reads-past window_of shut windows k l)) inv
-
-pub loop-i-init : goal.loop-i-init
-loop-i-init c h slots asks windows =
-    let e : c.into_iter-i-iterator.result.next ≡ 0 = search rules in
-    rw e (upto-none (windowed h).window h.window window_of shut c.args.self.now.windows windows)

@@ -1,8 +1,8 @@
-use Rattle.std.proofs.Common.{◌≡◌, suc, eqb, refl, ◌∙◌, rules}
+use Rattle.std.proofs.Common.{◌≡◌, suc, eqb, refl, ◌∙◌}
 use Rattle.sched.specs.declared.tasks.Slot.TheVariants as slot
 use Rattle.sched.specs.House.{ticked}
 use Rattle.sched.specs.Stores.{Reads, place_of, window_of, owner_of, shut}
-use Rattle.sched.proofs.Upto.{upto, upto-none, upto_all, reads-past}
+use Rattle.sched.proofs.Upto.{upto, upto_all, reads-past}
 use Rattle.sched.proofs.Passing.{pass-windows, pass-places, pass-windows-past, pass-places-past}
 use Rattle.sched.proofs.Owners.{same-owner}
 use Rattle.sched.proofs.reserved.Reserved.pass.Goals as goal
@@ -38,11 +38,3 @@ returns c =
           (λ k l. pass-places-past h (owner_of c.args.whose) k (reads-past place_of slot.Free slots k l) (reads-past window_of shut windows k l)) inv;
       awake = c.loop-i.invariant.2;
     }
-
-pub loop-i-init : goal.loop-i-init
-loop-i-init c =
-    let e : c.into_iter-i-iterator.result.next ≡ 0 = search rules in (
-      λ h windows. rw e (upto-none (ticked h (owner_of c.args.whose)).window h.window window_of shut c.args.self.now.windows windows),
-      λ h windows slots. rw e (upto-none (ticked h (owner_of c.args.whose)).place h.place place_of slot.Free c.args.tasks.now.slots slots),
-      refl,
-    )

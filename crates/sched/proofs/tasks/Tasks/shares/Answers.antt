@@ -3,7 +3,7 @@ use Rattle.std.proofs.Common.{◌≡◌, get_or, refl, ap, ◌∙◌, arith, rul
 use Rattle.std.proofs.lemmas.List.{get_or_default}
 use Rattle.sched.specs.declared.tasks.Slot.TheVariants as slot
 use Rattle.sched.specs.House.{sum, share_of}
-use Rattle.sched.specs.Stores.{place_of, place_at}
+use Rattle.sched.specs.Stores.{place_of}
 use Rattle.sched.proofs.Sums.{sum_more}
 use Rattle.sched.proofs.tasks.Tasks.shares.Goals as goal
 
@@ -17,8 +17,3 @@ loop-slot-preserved c =
     let same : get_or xs c.loop-slot.slot-index c.slot-item.result ≡ get_or xs c.loop-slot.slot-index slot.Free = search (rules, get_or_default) in
     let here : c.share-sum.result ≡ share_of (place_of (get_or xs c.loop-slot.slot-index slot.Free)) = c.share-sum.ensures.value ∙ ap (λ s. share_of (place_of s)) same in
     (rw sum_more (omega (arith, c.loop-slot.invariant.0)), omega (arith, c.loop-slot.invariant.1))
-
-pub returns : goal.returns
-returns c =
-    let e : c.loop-slot.slot-index ≡ 64 = omega arith in
-    record { value = c.loop-slot.invariant.0 ∙ ap (λ n. sum n (λ i. share_of (place_at c.args.self.now.slots i))) e; bound = omega (arith, c.loop-slot.invariant.1) }

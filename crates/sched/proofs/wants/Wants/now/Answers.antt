@@ -1,8 +1,8 @@
-use Rattle.std.proofs.Common.{◌≡◌, Bool, false, replicate, sym, ap, ◌∙◌, arith, rules}
+use Rattle.std.proofs.Common.{◌≡◌, Bool, false, replicate, rules}
 use Rattle.sched.specs.House.{wants}
 use Rattle.sched.specs.Stores.{Reads}
 use Rattle.sched.proofs.Arrays.{reads-replicate}
-use Rattle.sched.proofs.Upto.{upto, upto-none, upto-set, upto_all}
+use Rattle.sched.proofs.Upto.{upto, upto-none, upto_all}
 use Rattle.sched.proofs.Seeing.{past-wants}
 use Rattle.sched.proofs.wants.Wants.now.Goals as goal
 
@@ -10,12 +10,6 @@ pub loop-i-init : goal.loop-i-init
 loop-i-init c h seen =
     let e : c.into_iter-i-iterator.result.next ≡ 0 = search rules in
     rw e (upto-none (wants h) (λ _. false) (λ (b : Bool). b) false (replicate 64 false) (reads-replicate (λ (b : Bool). b) false))
-
-pub loop-i-preserved : goal.loop-i-preserved
-loop-i-preserved c h seen =
-    let n = c.loop-i.i-iterator.next in
-    let here = c.in-Some.ensures.steps.0 in
-    rw c.in-Some.ensures.steps.1 (upto-set (wants h) (λ _. false) (λ (b : Bool). b) false c.loop-i.flags n c.index.result c.asks.result (c.index.ensures.value ∙ here) (omega (arith, here, c.in-Some.i.within)) (c.asks.ensures h seen ∙ ap (wants h) (sym c.index.ensures.value)) (c.loop-i.invariant h seen))
 
 pub returns : goal.returns
 returns c h seen =
