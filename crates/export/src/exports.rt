@@ -14,6 +14,8 @@ use script::sink::Stopped;
 // What is answered in place of a count: the transcript has no room, or a step isn't one. A number, for C's sake.
 const REFUSED: u64 = u64::MAX;
 
+// `as` from a length, for which the library has no `From`, loses nothing.
+
 // Plays the script as the program does, into the transcript from its start. How many bytes were written, or `REFUSED` if there
 // is no room for all of them: then the transcript holds no more than a beginning, which no clause says.
 pub fn wendrifoy_play(script: &[u8], transcript: &mut [u8]) -> u64

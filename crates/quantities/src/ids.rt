@@ -71,6 +71,8 @@ impl<K, const N: u8> From<Id<K, N>> for u32 {
     }
 }
 
+// Three conversions and no more: one from any sort to any other would let a task become a lock.
+
 // The queue of those who wait for the lock.
 impl From<LockId> for QueueId {
     ghost from_gives = { λ lock queue. queue.index ≡ lock.index };

@@ -52,6 +52,7 @@ pub struct Share {
     ghost within: { parts ≤ 10080 },
 }
 
+// The fields are told by their names, in the width of the numbers that come in; `as` narrows what was tested.
 impl Share {
     pub fn parts(self) -> u32
         ensures value { result ≡ self.parts }

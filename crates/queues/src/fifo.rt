@@ -8,8 +8,8 @@ ghost use Rattle.queues.specs.Outcomes.{First, StandsIn, Pushed, Removed, Moved}
 
 use quantities::ids::{QueueId, TaskId};
 
-// The links are an arena in fixed memory, since nothing here may use a heap.
 // Who stands behind a member, who stands before it, and in which queue. Unless it stands in one, the neighbours mean nothing.
+// The links are an arena in fixed memory, since nothing here may use a heap.
 #[derive(Clone, Copy)]
 struct Link {
     next: Option<TaskId>,
@@ -90,9 +90,7 @@ impl Queues {
         ensures after { (f : ℕ → List ℕ) → Holds self.old f → Holds self.new (put q.index (rest (f q.index)) f) }
         ensures same { is_some result ≡ false → self.new ≡ self.old }
     {
-        let Some(i) = self.front(q) else {
-            return None;
-        };
+        let i = self.front(q)?;
         self.unlink(q, i);
         Some(i)
     }
@@ -161,7 +159,7 @@ impl Queues {
         self.set_prev(q, b, a);
     }
 
-    // This and the next are no twins: they differ in the field that they write, which can't be a parameter.
+    // This and the next write different fields: one function with the field as a closure is no plainer.
     fn set_next(&mut self, q: QueueId, a: Option<TaskId>, b: Option<TaskId>)
         ensures { self.new ≡ set_after q.index (spot a) b self.old }
     {

@@ -1,11 +1,14 @@
 -- What the crate of windows says of one, in the words of the rules.
-use Rattle.std.proofs.Common.{◌≡◌, ℕ, zero, suc, Bool, true, false, cond, Some, None, Option, sym, refl, ap, ◌∙◌, true≢false}
+use Rattle.std.proofs.Common.{◌≡◌, ℕ, zero, suc, Bool, true, false, cond, Some, None, Option, MatchOption, sym, refl, ap, ◌∙◌, true≢false}
 use mathlib.Core.Bool.{false≢true}
 use Rattle.windows.specs.Life as life
+use Rattle.quantities.specs.declared.promises.Reservation.{Reservation}
 use Rattle.windows.specs.declared.span.Span.{Span}
 use Rattle.windows.specs.declared.Window as code-window
+use Rattle.sched.specs.declared.tasks.Slot.{Slot}
+use Rattle.sched.specs.declared.tasks.Slot.TheVariants as slot
 use Rattle.sched.specs.House.{Place, Nobody, Kept, Window, Shut, Open, open_with, open_kept, passed, got_of, leaves, is_reserved, quota_of, period_of}
-use Rattle.sched.specs.Stores.{span_of, window_of, reserved_place}
+use Rattle.sched.specs.Stores.{span_of, window_of, place_of, reserved_place}
 
 -- a window by its numbers, as the rules have it
 abbrev pub read : life.Life → Window
@@ -86,3 +89,10 @@ module _ (w : code-window.Window) where
 
   pub leaves-other : (p : Place) → life.is_open (life.life w) ≡ true → is_reserved p ≡ false → leaves (window_of w) p ≡ Nobody
   leaves-other p e s = leaves-open p e ∙ rw s refl
+
+-- what a task leaves whose window is open: its share if it had one
+pub leaves-either : (w : code-window.Window) (p : Place) (o : Option Reservation) (r : Slot) → life.is_open (life.life w) ≡ true → MatchOption o (is_reserved p ≡ false) (λ x. p ≡ reserved_place x.quota x.period) →
+    MatchOption o (r ≡ slot.Free) (λ x. r ≡ slot.Kept x) → place_of r ≡ leaves (window_of w) p
+unfolding place_of
+leaves-either w p None r e none free = ap place_of free ∙ sym (leaves-other w p e none)
+leaves-either w p (Some x) r e some kept = ap place_of kept ∙ sym (leaves_kept w p x.quota x.period e some)

@@ -16,8 +16,8 @@ pub trait Class {
     // which of them the tick is owed to, if it comes to this kind
     ghost owed: { House → ℕ → Type 0 };
 
-    // Which of its tasks is to have the tick: none only if none asks. Who is there and who wants come one by one, since
-    // each kind needs another of them: made one value they would be taken apart again in each function.
+    // Which of its tasks is to have the tick: none only if none asks. Who is there and who wants come one by one: only
+    // reserved tasks choose by both, fixed ones by one of them, fair ones by neither, so a pair would be made for one kind.
     fn candidate(&self, tasks: &Tasks, wants: &Wants) -> Option<TaskId>
         ensures { (h : House) → SlotsOf tasks.now h → WantsOf wants.now h → stands self.now h → MatchOption result (some' 64 (asks h) ≡ false) (λ i. owed h i.index) };
 }

@@ -53,7 +53,8 @@ impl Fixed {
         }
     }
 
-    // The first of a rank that wants the tick, among as many as there can be.
+    // The first of a rank that wants the tick, among as many as there can be: that the queue ends is known only of one that
+    // stands for some tasks, and a loop has to end anyway.
     fn first_wanting(&self, rank: Rank, wants: &Wants) -> Option<TaskId>
         ensures { (f : ℕ → List ℕ) (h : House) → Holds self.now.turn f → WantsOf wants.now h → owner_of result ≡ in_turn (asking h) (f rank.index) }
     {

@@ -3,8 +3,10 @@ ghost use Rattle.std.specs.Prelude.{◌≡◌, ◌<◌, true, false, not, [], �
 ghost use Rattle.arrayvec.specs.ArrayVec.{array_vec_len};
 ghost use Rattle.sched.specs.House.{House};
 ghost use Rattle.sched.specs.Held.{can_take, concerns, locks_of, HeldAll, Ready, Took, Unlocked, Gave, Let, Ticked};
-ghost use Rattle.sched.specs.Stores.{Holds};
+ghost use Rattle.sched.specs.Stores.{Holds, owner_of};
+ghost use Rattle.sched.specs.View.{Sees};
 
+use crate::view::View;
 use crate::{Answer, Call, Scheduler};
 use arrayvec::ArrayVec;
 use quantities::ids::{LockId, TaskId};
@@ -14,7 +16,8 @@ use quantities::ids::{LockId, TaskId};
 pub struct Guard<'a> {
     scheduler: &'a mut Scheduler,
     task: TaskId,
-    // nobody holds a lock twice, so there is room for all that one task can hold
+    // nobody holds a lock twice, so there is room for all that one task can hold; by number, since an `ArrayVec` asks for a
+    // default, which an id hasn't
     locks: ArrayVec<u32, 64>,
 }
 
@@ -92,6 +95,20 @@ impl<'a> Guard<'a> {
         let lock = self.locks.pop()?;
         let _done = self.scheduler.unlock(self.task.into(), lock);
         Some(lock)
+    }
+
+    // What a place looks like while the locks are held.
+    pub fn view(&self, i: TaskId) -> View
+        ensures { (h : House) → Holds self.now.scheduler.now h → Sees h i.index result }
+    {
+        self.scheduler.view(i)
+    }
+
+    // Who owns a lock.
+    pub fn owner_of(&self, m: LockId) -> Option<TaskId>
+        ensures { (h : House) → Holds self.now.scheduler.now h → owner_of result ≡ h.owner m.index }
+    {
+        self.scheduler.owner_of(m)
     }
 
     // A call of others, or None if it concerns the guard's own task.

@@ -84,9 +84,9 @@ pub trait World {
         ensures { (house self.new ≡ after (house self.old) whose) × (left self.new + 1 ≡ left self.old) };
 }
 
-// A house is made of functions, which no model's value may be, and a scheduler stands for more than one, since positions are
-// kept less a base: so it has no model, and contracts speak of each house that it stands for.
 // What the scheduler knows: who is there and awake, the locks, and what each kind of promise keeps of its own.
+// It has no model: a house is made of functions, which no model's value may be, and a scheduler stands for more than one, since
+// positions are kept less a base. So contracts speak of each house that it stands for.
 #[derive(Drop)]
 pub struct Scheduler {
     tasks: Tasks,
@@ -136,7 +136,7 @@ impl Scheduler {
         self.named(whose)
     }
 
-    // By their numbers: whose the tick is, and its runner.
+    // By their numbers, as `pick` hands them on: whose the tick is, and its runner.
     fn named(&self, whose: Option<TaskId>) -> (Option<u32>, u32)
         ensures number { number_of result.0 ≡ owner_of whose }
         ensures runs { (h : House) (i : ℕ) → Locked self.now.locks h → owner_of whose ≡ suc i → result.1 ≡ runner 64 h i }

@@ -68,8 +68,8 @@ impl Locks {
         self.owners[q.index()]
     }
 
-    // No `while let`: that the chain ends is known only of a scheduler that stands for a house, and a loop has to end anyway.
     // Who runs when the tick is i's: i, or who owns what it waits for, and so on. Nobody waits in a ring, so 64 steps are enough.
+    // No `while let`: that the chain ends is known only of a scheduler that stands for a house, and a loop has to end anyway.
     pub fn runner(&self, i: TaskId) -> TaskId
         ensures { (h : House) → Locked self.now h → result.index ≡ runner 64 h i.index }
     {

@@ -40,6 +40,7 @@ impl From<Refusal> for Answer {
     ghost from_gives = { λ e a. a ≡ refused_by e };
 
     fn from(refusal: Refusal) -> Answer {
+        // `as` gives the numbers that stand above.
         Answer::No(refusal as u32)
     }
 }

@@ -47,10 +47,7 @@ impl Reserved {
         if !self.window(i).is_open() {
             return Slot::Free;
         }
-        match slot.reservation() {
-            Some(reservation) => Slot::Kept(reservation),
-            None => Slot::Free,
-        }
+        slot.reservation().map_or(Slot::Free, Slot::Kept)
     }
 
     // Windows open that have to, and stop being whole where the task doesn't want the tick.

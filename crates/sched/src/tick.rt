@@ -17,7 +17,7 @@ impl Scheduler {
         self.fair.begin(&self.tasks, wants);
     }
 
-    // The kinds in their order: the first that has a candidate has the tick.
+    // The kinds in their order: the first that has a candidate has the tick. No `or_else`: a further kind is a further test.
     pub(crate) fn choose(&self, wants: &Wants) -> Option<TaskId>
         ensures { (h : House) → Midtick self.now h → WantsOf wants.now h → Chosen h result }
     {

@@ -4,6 +4,8 @@ ghost use Rattle.script.specs.Any.{drawn, below, pick, period, kind, lock, call,
 
 use sched::{Call, Kind, Next};
 
+// `as` loses nothing here, since what is drawn is below a bound of 32 bits.
+
 // Ten periods that there are, and two that there aren't.
 const PERIODS: [u32; 12] = [4, 5, 6, 7, 8, 9, 10, 12, 20, 60, 3, 11];
 

@@ -22,6 +22,7 @@ impl Span {
         ensures whole { result.whole ≡ true }
     {
         Span {
+            // `as` loses nothing: a period is at most 10,080.
             ends: reservation.period() as u16,
             got: 0,
             whole: true,
