@@ -1,4 +1,5 @@
-// Writes the elements of the picture, each on a line of its own. What was written is handed on when no more finds room.
+// Writes the elements of the picture, each on a line of its own. What was written is handed on when no more finds room: not a
+// page of the player, which takes bytes and hands on between two lines.
 ghost use Rattle.std.specs.Prelude.{◌≡◌, ℕ, ◌+◌, ◌≤◌, List, [], ◌++◌, length, IsOk};
 ghost use Rattle.arrayvec.specs.ArrayString.{array_string_len};
 
@@ -27,6 +28,7 @@ impl<S: Sink> Write for Pen<'_, S> {
     fn write_str(&mut self, text: &str) -> fmt::Result
         ensures ok { IsOk result → (xs : List ℕ) → Drawn S.took self.old.out.now self.old.written.bytes xs → Drawn S.took self.new.out.now self.new.written.bytes (xs ++ text.now) }
         ensures fits { array_string_len self.old.written + length text.now ≤ 65536 → IsOk result }
+        ensures room { array_string_len self.old.written + length text.now ≤ 65536 → (self.new.written.bytes ≡ self.old.written.bytes ++ text.now) × (self.new.out.now ≡ self.old.out.now) }
     {
         if self.written.remaining_capacity() < text.len() {
             self.hand_on().map_err(|_| fmt::Error)?;

@@ -1,4 +1,5 @@
-// Plays a script for someone who looks on: after each call, and at each tick.
+// Plays a script for someone who looks on: after each call, and at each tick. No player with a listener: what the player promises
+// is what it prints, and over any listener its contracts would say no more than that it listens.
 use crate::moment::Moment;
 use sched::{Answer, Call, Next, Scheduler};
 use script::command::Command;

@@ -179,28 +179,27 @@ impl Sheet {
 
     // The top of the row of a task, at the beginning of a tick.
     pub fn task(&self, at: Spot, i: TaskId) -> Point {
-        Point {
-            x: self.scale.x(at.column),
-            y: self.band(at.band).task(i),
-        }
+        self.row(at, self.band(at.band).task(i))
     }
 
     pub fn lock(&self, at: Spot, m: LockId) -> Point {
-        Point {
-            x: self.scale.x(at.column),
-            y: self.band(at.band).lock(m),
-        }
+        self.row(at, self.band(at.band).lock(m))
     }
 
     // The top of the row of ticks that are nobody's.
     pub fn nobody(&self, at: Spot) -> Point {
+        self.row(at, self.band(at.band).nobody())
+    }
+
+    fn row(&self, at: Spot, y: u32) -> Point {
         Point {
             x: self.scale.x(at.column),
-            y: self.band(at.band).nobody(),
+            y,
         }
     }
 
     pub fn band(&self, k: u32) -> &Band {
+        // `as`, since the library has no `From` from `u32` to `usize`.
         &self.bands[(k as usize).min(MOST_BANDS - 1)]
     }
 

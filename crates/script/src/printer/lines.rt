@@ -1,4 +1,5 @@
-// The lines that are printed.
+// The lines that are printed. One function with a closure for what a line tells would be no plainer: its clause would have to say
+// of the closure what each of these says of its text.
 ghost use Rattle.std.specs.Prelude.{◌≡◌, ℕ, ◌≤◌, true, List, [], length, is_ok};
 ghost use Rattle.script.specs.Printed.{Printed, Prints, pending};
 ghost use Rattle.script.specs.Text.{answer_text, tick_text, had_text, bad_line_text, as_line};
