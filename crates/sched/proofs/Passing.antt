@@ -1,15 +1,12 @@
 -- Windows and places through a tick, one after the other: what is written at a place is what the rules say of it.
-use Rattle.std.proofs.Common.{◌≡◌, ℕ, suc, ◌+◌, Bool, true, false, cond, eqb, List, Some, None, Option, sym, refl, ap, ◌∙◌, arith}
+use Rattle.std.proofs.Common.{◌≡◌, ℕ, suc, ◌+◌, Bool, true, false, cond, eqb, List, refl, ap, ◌∙◌, arith}
 use mathlib.Core.Bool.{false≢true}
-use Rattle.std.proofs.lemmas.Bool.{ne_eqb}
-use Rattle.std.proofs.lemmas.Bool.Decides.{nat_tests}
-use Rattle.quantities.specs.Ids.{TaskId}
 use Rattle.windows.specs.Life as life
 use Rattle.windows.specs.declared.Window as code-window
 use Rattle.sched.specs.declared.tasks.Slot.{Slot}
 use Rattle.sched.specs.declared.tasks.Slot.TheVariants as slot
 use Rattle.sched.specs.House.{House, Place, Nobody, Window, Shut, Open, put, is_reserved, period_of, open_with, open_kept, windowed, passed, freed, ticked}
-use Rattle.sched.specs.Stores.{Reads, place_of, window_of, owner_of, reserved_place, shut}
+use Rattle.sched.specs.Stores.{Reads, place_of, window_of, reserved_place, shut}
 use Rattle.sched.proofs.Lives.{read, window-read, begin-told, kept-told}
 use Rattle.sched.proofs.Upto.{upto, upto_from, upto-more}
 
@@ -28,14 +25,6 @@ unfolding is_reserved open_kept
 begin-past h k p w = rw (p, w) refl
 
 -- THE TICK PASSES
-pub mine-some : (whose : Option TaskId) (j : TaskId) (a b i : ℕ) → whose ≡ Some j → a ≡ j.index → b ≡ i → eqb a b ≡ eqb (owner_of whose) (suc i)
-unfolding owner_of
-mine-some whose j a b i e f g = rw (e, f, g) (grind (arith, nat_tests))
-
-pub mine-none : (whose : Option TaskId) (i : ℕ) → whose ≡ None → false ≡ eqb (owner_of whose) (suc i)
-unfolding owner_of
-mine-none whose i e = rw e (sym (ne_eqb 0 (suc i) (omega arith)))
-
 open-freed : (e g : ℕ) (b : Bool) (p : Place) → freed (Open e g b) p ≡ p
 unfolding freed
 open-freed e g b p = refl

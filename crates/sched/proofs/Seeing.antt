@@ -1,6 +1,6 @@
 -- Who wants, from what is kept: a task whose runner is awake, since a runner doesn't wait.
-use Rattle.std.proofs.Common.{◌≡◌, ℕ, ◌<◌, ◌≤◌, Bool, true, false, ◌&&◌, eqb, ltb, get_or, sym, refl, ap, ◌∙◌, ⊎_elim}
-use Rattle.std.proofs.lemmas.Bool.{and_left, and_cases, eq-eqb, ltb-false}
+use Rattle.std.proofs.Common.{◌≡◌, ℕ, ◌<◌, ◌≤◌, Bool, true, false, ◌&&◌, eqb, get_or, sym, refl, ap, ◌∙◌}
+use Rattle.std.proofs.lemmas.Bool.{and_left, eq-eqb}
 use Rattle.sched.specs.declared.Scheduler.{Scheduler}
 use Rattle.sched.specs.declared.tasks.Tasks.{Tasks}
 use Rattle.sched.specs.declared.tasks.Slot.TheVariants as slot
@@ -36,10 +36,6 @@ module _ (h : House) where
     pub past-wants : (n : ℕ) → 64 ≤ n → wants h n ≡ false
     unfolding place_of is_task
     past-wants n l = other-wants n (ap is_task (reads-past place_of slot.Free seen.slots n l))
-
-    pub unseen-wants : (n : ℕ) → (ltb n 64 && is_task (place_at tasks.slots n)) ≡ false → false ≡ wants h n
-    unseen-wants n none =
-        sym (⊎_elim (λ e. past-wants n (ltb-false n 64 e)) (λ e. other-wants n (ap is_task (sym (seen.slots.at n)) ∙ e)) (and_cases (ltb n 64) (is_task (place_at tasks.slots n)) none))
 
   -- the same want when windows have opened
   pub wants-still : (w : code-wants.Wants) → WantsOf w h → WantsOf w (opened h)

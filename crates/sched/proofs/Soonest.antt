@@ -6,7 +6,7 @@ use Rattle.quantities.specs.Ids.{TaskId}
 use Rattle.quantities.specs.declared.promises.Reservation.{Reservation}
 use Rattle.windows.specs.Life as life
 use Rattle.windows.specs.declared.Window as code-window
-use Rattle.sched.specs.House.{House, Place, Window, Shut, Open, Nobody, is_reserved, quota_of, got_of, some', due}
+use Rattle.sched.specs.House.{House, Place, Window, Shut, Open, is_reserved, quota_of, got_of, some', due}
 use Rattle.sched.specs.Stores.{window_of, reserved_place}
 use Rattle.sched.specs.Midtick.{sooner_than, BestBelow, SoonestDue}
 use Rattle.sched.specs.Windows.{ends_of, is_whole}
@@ -53,11 +53,6 @@ whole-first (Open x g true) Shut e s = absurd (true≢false s)
 whole-first (Open x g true) (Open f k true) e s = (refl, ltb-false x f s)
 whole-first (Open x g true) (Open f k false) e s = absurd (true≢false s)
 whole-first (Open x g false) w e s = absurd (false≢true e)
-
--- past the places nobody is due
-pub past-due : (h : House) (k : ℕ) → h.place k ≡ Nobody → due h k ≡ false
-unfolding is_reserved
-past-due h k e = rw e refl
 
 module _ (h : House) (k : ℕ) where
   -- k isn't due

@@ -68,9 +68,6 @@ pub record Walked (xs : List ℕ) (f : ℕ → Bool) (k : ℕ) (at : Option Task
   pub none : in_turn f xs ≡ in_turn f left
 
 module _ (xs : List ℕ) (f : ℕ → Bool) where
-  pub walk_start : (at : Option TaskId) → First xs at → Walked xs f 0 at
-  walk_start at h = record { done = []; left = xs; parts = refl; steps = refl; next = h; none = refl }
-
   -- at the end of the queue
   pub walk_end : (k : ℕ) (at : Option TaskId) → at ≡ None → Walked xs f k at → owner_of None ≡ in_turn f xs
   unfolding owner_of in_turn

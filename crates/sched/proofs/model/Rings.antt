@@ -8,8 +8,8 @@ use Rattle.sched.proofs.Puts.{put_both}
 use Rattle.sched.proofs.Bounded.{none-at}
 use Rattle.sched.proofs.model.CallWays.{Ways, call-ways}
 use Rattle.sched.proofs.model.Places.{freed-task}
-use Rattle.sched.proofs.model.Stands.{Waiter, Holder, in-no-row, free-row, keeps-tasks, leaves-place, takes-lock, frees-lock, passes-lock}
-use Rattle.sched.proofs.model.Runner.{Standing, Free, runner-free, runner-runner, runner-owner, queues-lock}
+use Rattle.sched.proofs.model.Stands.{Waiter, free-row, keeps-tasks, leaves-place, takes-lock, frees-lock, passes-lock}
+use Rattle.sched.proofs.model.Runner.{Standing, Free, runner-free, queues-lock}
 
 nobody-waits : Standing empty
 unfolding times
@@ -65,10 +65,6 @@ rows-stand h r i m l l' = (comes-stands r).once i m
 
 -- What follows, for whoever knows that h can have come about.
 module _ (h : House) (r : Comes h) where
-  -- an owner is a task
-  pub owner-is-task : (m j : ℕ) → h.owner m ≡ suc j → Holder h.place m j
-  owner-is-task = (comes-stands r).holder
-
   -- who waits is a task, and what it waits for has an owner
   pub waiter-is-task : (i m : ℕ) → h.waits i ≡ suc m → Waiter h.place h.owner i m
   waiter-is-task = (comes-stands r).waiter
@@ -76,14 +72,5 @@ module _ (h : House) (r : Comes h) where
   pub unowned-row-empty : (m : ℕ) → h.owner m ≡ 0 → h.row m ≡ []
   unowned-row-empty = free-row h.place h.waits h.owner h.row (comes-stands r)
 
-  pub stands-in-no-row : (i m : ℕ) → h.waits i ≡ 0 → times i (h.row m) ≡ 0
-  stands-in-no-row = in-no-row h.place h.waits h.owner h.row (comes-stands r)
-
   pub runner-is-free : (i : ℕ) → i < 64 → is_task (h.place i) ≡ true → Free h (runner 64 h i)
   runner-is-free = runner-free h (comes-stands r)
-
-  pub runner-of-runner : (i : ℕ) → i < 64 → is_task (h.place i) ≡ true → runner 64 h (runner 64 h i) ≡ runner 64 h i
-  runner-of-runner = runner-runner h (comes-stands r)
-
-  pub runner-of-owner : (i m j : ℕ) → h.waits i ≡ suc m → h.owner m ≡ suc j → runner 64 h i ≡ runner 64 h j
-  runner-of-owner = runner-owner h (comes-stands r)

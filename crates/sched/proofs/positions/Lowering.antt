@@ -33,9 +33,6 @@ pub record Lowers (base by k : ℕ) (positions : List Position) (place : ℕ →
   pub left : (i : ℕ) (d : Position) → i < 64 → k ≤ i → 0 < weight_of (place i) → Stands base (weight_of (place i)) (far i) (rest i) (get_or positions i d)
 
 module _ {base by : ℕ} {positions : List Position} {place : ℕ → Place} {far rest : ℕ → ℕ} where
-  pub lowers-none : AllStand base positions place far rest → Lowers base by 0 positions place far rest
-  lowers-none all = record { len = all.len; done = λ i d l li. absurd (omega arith); left = λ i d l _. all.each i d l }
-
   pub lowers-all : {k : ℕ} → 64 ≤ k → Lowers base by k positions place far rest → AllStand (base + by) positions place far rest
   lowers-all past at = record { len = at.len; each = λ i d l. at.done i d l (omega arith) }
 
