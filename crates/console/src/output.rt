@@ -9,6 +9,7 @@ impl Sink for Output<'_> {
     ghost took = { λ _ _. Unit {0} };
 
     fn take(&mut self, lines: &[u8]) -> Result<(), Stopped> {
+        // `map_err`, since both errors are other crates' types.
         self.0.stdout().write_all(lines).map_err(|_| Stopped)
     }
 }

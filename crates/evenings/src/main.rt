@@ -1,4 +1,5 @@
 // Plays each script of the data folder from an empty scheduler, and compares what it writes with what the rules say.
+// What it does is the table; `rehearsal` does the rest.
 #![tactic(auto)]
 
 use rehearsal::scene::Scene;

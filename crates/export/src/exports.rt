@@ -1,4 +1,6 @@
 // The functions that `export_c` exports.
+// A crate is a library or a static library, so those stand once more with the names that C calls. What plays is `play_into`, or
+// `hours` where that is asked for, each after the same test.
 ghost use Rattle.std.specs.Prelude.{◌≡◌, ◌⊎◌};
 ghost use Rattle.export.specs.Kept.{AllGood, FirstBad, Kept, Refused};
 ghost use Rattle.export.specs.Transcribed.{Transcribed};

@@ -1,4 +1,5 @@
 // The functions that C and Rust may call, by their names: each is that of the crate `export`, with its clauses.
+// They stand apart from it since a crate is a library or a static library.
 #![tactic(auto)]
 
 ghost use Rattle.std.specs.Prelude.{◌≡◌, ◌⊎◌};

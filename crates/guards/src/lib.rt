@@ -1,4 +1,5 @@
 // Code that holds locks by guards, and what it learns from their drops.
+// A bool says whether it came to that; the pair of a tick is as `hours` hands it on.
 #![tactic(auto)]
 
 ghost use Rattle.std.specs.Prelude.{◌≡◌, true, IfSome};

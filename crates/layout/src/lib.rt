@@ -1,5 +1,6 @@
 // Where a tick is drawn: how wide it is, in which band, how far to the right. Ticks are wrapped into bands, each 960 wide,
 // so that a long script needs no wider page.
+// A column is any number, and what is said of one is said of those that a band has: a type for it would ask callers for a test.
 #![tactic(auto)]
 
 ghost use Rattle.std.specs.Prelude.{◌≡◌, ◌+◌, ◌-◌, ◌*◌, ◌<◌, ◌≤◌};

@@ -11,7 +11,7 @@ pub enum Step {
     Calls(Call),
 }
 
-// An entry of a log: a tick, whose it was and who ran in it; a call and its answer.
+// An entry of a log: a tick, whose it was and who ran in it, as the trait `World` tells them; a call and its answer.
 #[derive(Clone, Copy)]
 pub enum Entry {
     Ran(Option<u32>, u32),

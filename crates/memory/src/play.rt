@@ -1,4 +1,5 @@
 // A script played into a log by the scheduler, step by step, and what the log then holds.
+// `as` from a length, for which the library has no `From`, loses nothing.
 ghost use Rattle.std.specs.Prelude.{◌≡◌, ◌<◌, length, MatchOption};
 ghost use Rattle.memory.specs.Played.{PlayedAs};
 ghost use Rattle.memory.specs.Recorded.{Ended, entries_of};

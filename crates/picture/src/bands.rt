@@ -1,4 +1,5 @@
 // The second look: which rows each band has.
+// `as usize`, since the library has no `From` from `u32`.
 use crate::lanes::Lanes;
 use crate::moment::Moment;
 use crate::session::Viewer;

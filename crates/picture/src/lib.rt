@@ -43,6 +43,7 @@ pub fn draw<S: Sink>(script: &[u8], out: &mut S) -> Result<(), Stopped> {
     let mut bands = Bands::new(tally);
     play(script, &mut bands);
     let mut canvas = Canvas::new(bands.sheet(), out);
+    // `map_err` here and in the pen, since `fmt::Error` and `Stopped` are other crates' types.
     picture(script, &mut canvas).map_err(|_| Stopped)?;
     canvas.pen.hand_on()
 }

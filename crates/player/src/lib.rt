@@ -1,4 +1,5 @@
 // Plays a script as it comes in, and writes the answers.
+// Contracts speak of each script and each text that a sink can have taken, since of the system's nothing is known.
 #![tactic(auto)]
 
 ghost use Rattle.std.specs.Prelude.{◌≡◌, ℕ, ◌+◌, true, List, [], ◌∷◌, ◌++◌, is_ok, Some};

@@ -43,7 +43,7 @@ impl Theatre {
         answer
     }
 
-    // Whose the next tick is, and who runs in it: it counts for whose it is.
+    // Whose the next tick is, and who runs in it, as `hours` hands them on: it counts for whose it is.
     pub fn tick(&mut self) -> (Option<u32>, u32)
         ensures may { (h : House) → Holds self.old.scheduler h → T (may_run h result.0 result.1) × Holds self.new.scheduler (after h result.0) }
         ensures had { self.new.had ≡ had_tick result.0 self.old.had }
@@ -65,7 +65,7 @@ impl Theatre {
         &self.had
     }
 
-    // How many ticks the task at this place has had, if there is one.
+    // How many ticks the task at this place has had, if there is one. `as`, since the library has no `From` from `u32` to `usize`.
     fn had_by(&self, i: u32) -> Option<u64>
         ensures { result ≡ slice_index_or self.now.had i None }
     {

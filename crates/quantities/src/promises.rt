@@ -1,4 +1,5 @@
 // What a task is promised: a quota of each period, or a weight.
+// Fields are told by their names, in the width of the numbers that come in; `as` narrows what was tested.
 ghost use Rattle.std.specs.Prelude.{◌≡◌, ◌*◌, ◌/◌, ◌<◌, ◌≤◌, MatchResult};
 ghost use Rattle.quantities.specs.Range.{GoodReservation};
 
@@ -52,7 +53,6 @@ pub struct Share {
     ghost within: { parts ≤ 10080 },
 }
 
-// The fields are told by their names, in the width of the numbers that come in; `as` narrows what was tested.
 impl Share {
     pub fn parts(self) -> u32
         ensures value { result ≡ self.parts }

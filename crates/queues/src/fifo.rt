@@ -1,5 +1,6 @@
 // The queues as links between neighbours, in one array of members and one of ends.
 // A queue is a ring through nobody, who comes after the last member and before the first.
+// Contracts speak of all queues that the links stand for, which are functions from numbers, and no model's value may be that.
 ghost use Rattle.std.specs.Prelude.{◌≡◌, ℕ, false, List, [], ◌∷◌, ◌++◌, is_some};
 ghost use Rattle.queues.specs.Members.{Free, rest, put};
 ghost use Rattle.queues.specs.Rings.{Holds, spot, link_of, ends_of};

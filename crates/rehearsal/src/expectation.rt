@@ -14,6 +14,7 @@ pub fn first_difference(expected: &[u8], transcript: &[u8]) -> Option<usize>
     ensures { result ≡ first_apart 1 (cut 10 expected.now) (cut 10 transcript.now) }
 {
     let mut lines = Parts::new(transcript, b'\n');
+    // Counted beside, since the number after the last line is an answer too.
     let mut number: usize = 1;
     for want in Parts::new(expected, b'\n') {
         if !met(want, &mut lines) {

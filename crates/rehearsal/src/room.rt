@@ -3,8 +3,7 @@ ghost use Rattle.std.specs.Prelude.{◌≡◌, ◌+◌, ◌≤◌, ◌↔◌, []
 
 use arrayvec::ArrayVec;
 use script::sink::{Sink, Stopped};
-use std::error::Error;
-use std::fmt;
+use thiserror::Error;
 
 #[derive(Drop)]
 pub struct Room {
@@ -12,7 +11,8 @@ pub struct Room {
 }
 
 // There is no room for it.
-#[derive(Clone, Copy, Debug)]
+#[derive(Clone, Copy, Debug, Error)]
+#[error("the text is too long")]
 pub struct Full;
 
 impl Room {
@@ -30,6 +30,7 @@ impl Room {
         ensures refused { OnErr result (self.new ≡ self.old) }
         ensures fits { IsOk result ↔ (length self.old.text.items + length more.now ≤ 65536) }
     {
+        // `map_err` here and below, since what the error holds isn't wanted.
         self.text.try_extend_from_slice(more).map_err(|_| Full)
     }
 
@@ -47,11 +48,3 @@ impl Sink for Room {
         self.push(lines).map_err(|_| Stopped)
     }
 }
-
-impl fmt::Display for Full {
-    fn fmt<W: fmt::Write>(&self, f: &mut fmt::Formatter<W>) -> fmt::Result {
-        f.write_str("the text is too long")
-    }
-}
-
-impl Error for Full {}

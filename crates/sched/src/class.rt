@@ -17,7 +17,7 @@ pub trait Class {
     ghost owed: { House → ℕ → Type 0 };
 
     // Which of its tasks is to have the tick: none only if none asks. Who is there and who wants come one by one: only
-    // reserved tasks choose by both, fixed ones by one of them, fair ones by neither, so a pair would be made for one kind.
+    // reserved tasks choose by both, fixed ones by one of them, fair ones by neither, having looked at both as the tick began.
     fn candidate(&self, tasks: &Tasks, wants: &Wants) -> Option<TaskId>
         ensures { (h : House) → SlotsOf tasks.now h → WantsOf wants.now h → stands self.now h → MatchOption result (some' 64 (asks h) ≡ false) (λ i. owed h i.index) };
 }

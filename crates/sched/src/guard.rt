@@ -21,6 +21,7 @@ pub struct Guard<'a> {
     locks: ArrayVec<u32, 64>,
 }
 
+// `lent` and `ids` stand in each contract: each call says of itself what it leaves alone.
 impl<'a> Guard<'a> {
     // It holds nothing yet.
     pub fn new(scheduler: &'a mut Scheduler, i: TaskId) -> Guard<'a>
@@ -124,7 +125,7 @@ impl<'a> Guard<'a> {
         Some(self.scheduler.call(c))
     }
 
-    // A tick goes by: whose it is, and who runs in it.
+    // A tick goes by: whose it is, and who runs in it, as `hours` hands them on.
     pub fn pick(&mut self) -> (Option<u32>, u32)
         ensures lent { self.new.scheduler.ghost_name ≡ self.old.scheduler.ghost_name }
         ensures ids { (self.new.task ≡ self.old.task) × (self.new.locks ≡ self.old.locks) }

@@ -1,4 +1,5 @@
 // Who owns each lock, who waits for it, and who runs for whom.
+// Contracts speak of each house that they stand for: locks have no model, as a scheduler has none.
 ghost use Rattle.std.specs.Prelude.{◌≡◌, ℕ, suc, ◌-◌, Bool, true, false, not, List, [], ◌∷◌, ◌++◌, MatchOption, ◌==◌, ◌≢◌, slice_set};
 ghost use Rattle.std.specs.declared.option.Option.TheVariants as option;
 ghost use Rattle.queues.specs.Members.{Free};

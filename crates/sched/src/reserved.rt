@@ -1,4 +1,5 @@
 // Reserved tasks: a window each, of which the quota is had in time.
+// Contracts speak of each house that they stand for: windows have no model, as a scheduler has none.
 ghost use Rattle.std.specs.Prelude.{◌≡◌, ℕ, ◌+◌, true, false, MatchOption, slice_index_or, slice_set};
 ghost use Rattle.sched.specs.House.{House, Place, empty, put, leaves, windowed, passed, freed, ticked, due};
 ghost use Rattle.sched.specs.House.{Window as RulesWindow};

@@ -10,7 +10,7 @@ use crate::{Kind, Scheduler};
 use quantities::ids::{LockId, TaskId};
 use windows::Window;
 
-// Who is at a place, in the numbers that a kind has.
+// Who is at a place: nobody, or one of two. In the numbers that a kind has, whose text is fixed.
 #[derive(Clone, Copy)]
 pub enum Occupant {
     Nobody,

@@ -1,4 +1,5 @@
 // A line of a script, taken in byte by byte, however long it is.
+// Contracts speak of all texts that it may be: what can't be a command any more isn't kept.
 use crate::word::Word;
 use arrayvec::ArrayVec;
 

@@ -1,8 +1,7 @@
 // Where text goes.
 ghost use Rattle.std.specs.Prelude.{◌≡◌, ℕ, true, List, ◌++◌, is_ok};
 
-use std::error::Error;
-use std::fmt;
+use thiserror::Error;
 
 // Takes what is written. `Err` says that it can't be written any more.
 pub trait Sink {
@@ -14,13 +13,6 @@ pub trait Sink {
 }
 
 // The text can't be written any more.
-#[derive(Clone, Copy, Debug)]
+#[derive(Clone, Copy, Debug, Error)]
+#[error("the output can't be written")]
 pub struct Stopped;
-
-impl fmt::Display for Stopped {
-    fn fmt<W: fmt::Write>(&self, f: &mut fmt::Formatter<W>) -> fmt::Result {
-        f.write_str("the output can't be written")
-    }
-}
-
-impl Error for Stopped {}

@@ -1,4 +1,5 @@
 // A word of a line, taken in byte by byte: a name of the language, a number, or neither.
+// Contracts speak of all texts that it may be: a word that is too long for a name may be many.
 ghost use Rattle.std.specs.Prelude.{◌≡◌, ℕ, ◌<◌, List, [], ◌∷◌, ◌++◌, length, ◌==◌, MatchOption};
 ghost use Rattle.script.specs.Grammar.{value_of, number_of};
 ghost use Rattle.script.specs.Taken.{WordTaken};

@@ -1,4 +1,5 @@
 // The lent recorder as a world: the house is what was written comes to, and it may go on while there is room.
+// What is told is one entry more: lines that hand on, as those of the recorder are.
 ghost use Rattle.memory.specs.Recorded.{house_of, room_in};
 
 use crate::entry::Entry;

@@ -1,4 +1,5 @@
 // The recorder as a world: the house is what the log comes to, and it may go on while there is room.
+// What is told is one entry more: lines that hand on, as those of the lent recorder are.
 ghost use Rattle.std.specs.Prelude.{◌-◌, length};
 ghost use Rattle.sched.specs.House.{empty};
 ghost use Rattle.memory.specs.Run.{outcome};

@@ -1,5 +1,7 @@
 // The texts of what is answered, without the newline. They aren't `Display`, which would be no plainer: each would want a
 // type around it, as `Answer` is another crate's, and `write!` hands back a `Result` where a page is known to have room.
+// Of a page with room for a line each says the text and that room is left: the two go apart where a line has parts. Whose a tick
+// is and who runs in it come as the trait `World` tells them.
 ghost use Rattle.std.specs.Prelude.{◌+◌, ◌<◌, ◌≤◌, ◌++◌, length, decimal};
 ghost use Rattle.script.specs.Printed.{pending, Wrote, Roomy};
 ghost use Rattle.script.specs.Text.{answer_text, tick_text, count_text, had_text, bad_line_text};

@@ -1,4 +1,5 @@
 // Where a task enters beside a position of another weight. Its parts round up, so that nobody gains by entering.
+// A rest is less than the weight, so that `as` loses nothing.
 ghost use Rattle.std.specs.Prelude.{◌≡◌, ◌≤◌};
 ghost use Rattle.virtual_time.specs.Positions.{capped, up_rest, joined_far, joined_rest, made_far, made_rest};
 
