@@ -2,12 +2,13 @@
 # Counts the places that docs/DESIGN-PASS.md speaks of, point by point, in the sources of the crates.
 # With -l it lists them. Run it at the top of the repository.
 set -u
+found=$(mktemp)
+trap 'rm -f "$found"' EXIT
 show=${1:-}
 find_all() {
-    grep -rnE "$2" crates/*/src --include='*.rt' | grep -vE '^[^:]*:[0-9]+: *//' > /tmp/places.$$
-    echo "$1: $(wc -l < /tmp/places.$$)"
-    if [ "$show" = -l ]; then sed 's/^/    /' /tmp/places.$$; fi
-    rm -f /tmp/places.$$
+    grep -rnE "$2" crates/*/src --include='*.rt' | grep -vE '^[^:]*:[0-9]+: *//' > "$found"
+    echo "$1: $(wc -l < "$found")"
+    if [ "$show" = -l ]; then sed 's/^/    /' "$found"; fi
 }
 find_all '1a enums' '^ *(pub )?enum '
 find_all '1b sentinels' 'const (NONE|REFUSED)\b'
