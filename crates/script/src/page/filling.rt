@@ -22,12 +22,18 @@ impl Page {
     }
 
     // In decimal digits.
+    #[tactic(auto, using(std::proofs::lemmas::Fmt::decimal_digit))]
     pub fn number(&mut self, n: u64)
         ensures text { length (pending self.old) + 20 ≤ 65536 → Wrote self.old self.new (decimal n) }
         ensures most { length (pending self.old) + 20 ≤ 65536 → length (pending self.new) ≤ length (pending self.old) + 20 }
     {
-        let mut digits = Buffer::new();
-        self.text(digits.format(n).as_bytes());
+        // One digit is put as it is: places and most counts have no more, and a buffer costs more than the byte.
+        if n < 10 {
+            self.put(b'0' + n as u8);
+        } else {
+            let mut digits = Buffer::new();
+            self.text(digits.format(n).as_bytes());
+        }
     }
 
     pub fn put(&mut self, byte: u8)

@@ -63,7 +63,8 @@ impl Page {
         ensures most { length (pending self.old) + 21 ≤ 65536 → length (pending self.new) ≤ length (pending self.old) + 21 }
     {
         if let Some(n) = count {
-            self.text_number(b" ", n);
+            self.put(b' ');
+            self.number(n);
         }
     }
 
