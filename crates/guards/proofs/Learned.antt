@@ -1,5 +1,5 @@
 -- What the guards' drops tell, put together: who owns a lock at the end.
-use Rattle.std.proofs.Common.{◌≡◌, ℕ, suc, List, [], ◌∷◌, ◌++◌, Option, sym, refl, ap, ◌∙◌, subst, inl, inr, arith}
+use Rattle.std.proofs.Common.{◌≡◌, ℕ, suc, Bool, true, false, ◌&&◌, List, [], ◌∷◌, ◌++◌, Option, sym, refl, ap, ◌∙◌, subst, inl, inr, arith}
 use Rattle.quantities.specs.Ids.{TaskId}
 use Rattle.sched.specs.declared.Scheduler.{Scheduler}
 use Rattle.sched.specs.declared.Answer.{Answer}
@@ -7,11 +7,11 @@ use Rattle.sched.specs.declared.Answer.TheVariants.{Done}
 use Rattle.sched.specs.declared.Call.TheVariants.{Lock}
 use Rattle.sched.specs.House.{House, first_of, calls, after}
 use Rattle.sched.specs.Stores.{Holds}
-use Rattle.sched.specs.Held.{HeldAll, Took, Gave, Let, Ticked}
+use Rattle.sched.specs.Held.{can_take, HeldAll, Took, Gave, Let, Ticked}
 use Rattle.sched.proofs.Told.{at_both}
 use Rattle.sched.proofs.model.Rings.{unowned-row-empty}
 use Rattle.sched.proofs.model.Held.{asks-queues}
-use Rattle.guards.specs.Sections.{Both, HandedOn, OverTick, taken, outer}
+use Rattle.guards.specs.Sections.{to_be_had, Both, HandedOn, OverTick, taken, outer}
 
 -- WHAT A GUARD SAYS, at the numbers that code has for its task and locks
 pub index : {a b : TaskId} → a ≡ b → a.index ≡ b.index
@@ -19,6 +19,14 @@ index = ap (λ (x : TaskId). x.index)
 
 pub took-at : {s x a : Scheduler} {i j m n : ℕ} → s ≡ x → i ≡ j → m ≡ n → Took s a i m → Took x a j n
 took-at {a = a} {j = j} {n = n} e f g p = subst (λ (y : Scheduler). Took y a j n) e (at_both (Took _ a) f g p)
+
+-- what `lock` answers
+abbrev pub Tells : (s : Scheduler) (i : ℕ) → List ℕ → ℕ → Bool → Type 0
+Tells s i ms m r = (h : House) → Holds s h → HeldAll h i ms → r ≡ can_take h i m
+
+pub tells-at : {s x : Scheduler} {i j m n : ℕ} {ls ms : List ℕ} {r : Bool} → s ≡ x → i ≡ j → ls ≡ ms → m ≡ n → Tells s i ls m r → Tells x j ms n r
+tells-at {s} {j = j} {n = n} {ls} {ms} {r} e f g p q =
+    subst (λ (y : Scheduler). Tells y j ms n r) e (subst (λ l. Tells s j l n r) g (at_both (λ a b. Tells s a ls b r) f p q))
 
 pub gave_at : {s t : Scheduler} {i j : ℕ} {ms ns : List ℕ} → i ≡ j → ms ≡ ns → Gave s t i ms → Gave s t j ns
 gave_at {s} {t} {j = j} {ms = ms} e f p = subst (Gave s t j) f (subst (λ n. Gave s t n ms) e p)
@@ -42,6 +50,16 @@ one-first j = refl
 
 apart : ◌≡◌ {A = ℕ} 5 6 → ⊥
 apart e = omega (arith, e)
+
+-- WHETHER BOTH ARE TO BE HAD. Not if 5 isn't,
+pub five-tells : {s : Scheduler} {r : Bool} (i : ℕ) → Tells s i [] 5 r → r ≡ false → (h : House) → Holds s h → false ≡ to_be_had h i
+five-tells i tell e h k = sym (ap (λ b. b && can_take (calls (Lock i 5) h).house i 6) (sym (tell h k tt) ∙ e))
+
+-- and else if 6 is.
+pub six-tells : {s a : Scheduler} {i : ℕ} {r t : Bool} → Tells s i [] 5 r → r ≡ true → Took s a i 5 → Tells a i (5 ∷ []) 6 t → (h : House) → Holds s h → t ≡ to_be_had h i
+six-tells {i = i} tell e take next h k =
+    let first = take h k in
+    next (calls (Lock i 5) h).house first.0 (first.1.held [] tt) ∙ sym (ap (λ b. b && can_take (calls (Lock i 5) h).house i 6) (sym (tell h k tt) ∙ e))
 
 -- i has 5 and 6, and nobody stands in their rows
 record Nested (i : ℕ) (g : House) : Type 0 where

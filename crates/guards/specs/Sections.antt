@@ -1,10 +1,15 @@
 -- What becomes of locks that code holds by guards.
 -- Assumes nothing.
-use Rattle.std.specs.Prelude.{◌≡◌, ℕ, suc, T, Option}
+use Rattle.std.specs.Prelude.{◌≡◌, ℕ, suc, Bool, ◌&&◌, T, Option}
 use Rattle.sched.specs.declared.Scheduler.{Scheduler}
 use Rattle.sched.specs.declared.Call.TheVariants.{Lock, Unlock}
 use Rattle.sched.specs.House.{House, calls, may_run, after}
+use Rattle.sched.specs.Held.{can_take}
 use Rattle.sched.specs.Stores.{Holds}
+
+-- 5 is to be had at once, and 6 once i has taken 5
+abbrev pub to_be_had : House → ℕ → Bool
+to_be_had h i = can_take h i 5 && can_take (calls (Lock i 5) h).house i 6
 
 -- i has taken 5, then 6
 abbrev pub taken : House → ℕ → House

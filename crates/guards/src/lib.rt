@@ -5,7 +5,7 @@
 ghost use Rattle.std.specs.Prelude.{◌≡◌, true, IfSome};
 ghost use Rattle.sched.specs.House.{House};
 ghost use Rattle.sched.specs.Stores.{Holds};
-ghost use Rattle.guards.specs.Sections.{Both, HandedOn, OverTick};
+ghost use Rattle.guards.specs.Sections.{to_be_had, Both, HandedOn, OverTick};
 
 use quantities::ids::{LockId, TaskId};
 use sched::guard::Guard;
@@ -13,7 +13,8 @@ use sched::{Answer, Call, Scheduler};
 
 // The task takes locks 5 and 6, one within the other, and gives them back. False if one of them isn't to be had at once.
 pub fn both(scheduler: &mut Scheduler, i: TaskId) -> bool
-    ensures { result ≡ true → (h : House) → Holds scheduler.old h → Both h i.index scheduler.new }
+    ensures value { (h : House) → Holds scheduler.old h → result ≡ to_be_had h i.index }
+    ensures given { result ≡ true → (h : House) → Holds scheduler.old h → Both h i.index scheduler.new }
 {
     let five = LockId::try_from(5).unwrap();
     let six = LockId::try_from(6).unwrap();
@@ -36,6 +37,13 @@ pub fn hands_on(scheduler: &mut Scheduler, i: TaskId, j: TaskId) -> bool
     let Some(told) = guard.call(Call::Lock(j.into(), 5)) else {
         return false;
     };
+    is_done(told)
+}
+
+fn is_done(told: Answer) -> bool
+    ensures done { result ≡ true → told ≡ Answer.Done }
+    ensures all { told ≡ Answer.Done → result ≡ true }
+{
     matches!(told, Answer::Done)
 }
 

@@ -37,6 +37,8 @@ pub struct Id<K, const N: u8> {
 
 // By hand, since a derive would ask for a copy of K, of which there is none.
 impl<K, const N: u8> Clone for Id<K, N> {
+    ghost is_clone = { λ x y. y ≡ x };
+
     ghost is_infallible = { λ _. ⊤ };
 
     fn clone(&self) -> Result<Self, AllocError> {

@@ -9,12 +9,12 @@ use Rattle.guards.specs.Sections.{HandedOn}
 use Rattle.guards.proofs.Learned.{index, took-at, gave_at, on-top, goes_to}
 use Rattle.guards.proofs.hands_on.Goals as goal
 
-pub returns-in-Done : goal.returns-in-Done
-returns-in-Done c _ =
+pub returns : goal.returns
+returns c done =
     let s = c.args.scheduler.now in
     let g₁ = c.lock.new.self in
     let g₂ = c.call.new.self in
-    let t = c.drop-guard-in-Done.new.self.0 in
+    let t = c.drop-guard-2.new.self.0 in
     let i = c.args.i.index in
     let j = c.args.j.index in
     let a = c.in-Some.told in
@@ -27,5 +27,5 @@ returns-in-Done c _ =
     subst (λ (x : Scheduler). (h : House) → Holds s h → HandedOn h i j x) (search rules) (goes_to s g₁.scheduler.now g₂.scheduler.now t i j a
     (took-at c.new-guard.ensures.same (index task₀) five first.1)
     (at_both (λ x y. Let g₁.scheduler.now g₂.scheduler.now x (Lock y 5) a) (index task₁) c.into.ensures.0 c.in-Some.ensures.answered)
-    c.in-Done.is
-    (gave_at (index task₂) locks c.drop-guard-in-Done.ensures.given))
+    (c.is_done.ensures.done done)
+    (gave_at (index task₂) locks c.drop-guard-2.ensures.given))
