@@ -3,12 +3,12 @@ use Rattle.std.proofs.Common.{◌≡◌, ℕ, ◌≤◌, List, ◌++◌, length,
 use Rattle.std.proofs.lemmas.List.{drop-drop}
 use Rattle.player.specs.Evening.{Allowed}
 use Rattle.player.specs.Standing.{Played}
-use Rattle.export.specs.declared.transcript.Transcript.{Transcript}
+use Rattle.export.specs.declared.accounted.Accounted.{Accounted}
 use Rattle.export.specs.Room.{Grew}
 use Rattle.export.specs.Transcribed.{origin, Took, Transcribed}
 
 -- What is made from a room has taken no more than that.
-pub took-none : (t : Transcript) → t.len ≡ 0 → Took t (origin t.room.ghost_name t.room.now)
+pub took-none : (t : Accounted) → t.len ≡ 0 → Took t (origin t.room.ghost_name t.room.now)
 took-none t e =
     record {
       before = t.room.now;
@@ -19,7 +19,7 @@ took-none t e =
     }
 
 -- Lines are written after what was, and behind them nothing changes.
-pub took_more : (t u : Transcript) (all lines : List ℕ) → Took t all → u.room.ghost_name ≡ t.room.ghost_name → Grew t.room.now u.room.now t.len lines u.len → Took u (all ++ lines)
+pub took_more : (t u : Accounted) (all lines : List ℕ) → Took t all → u.room.ghost_name ≡ t.room.ghost_name → Grew t.room.now u.room.now t.len lines u.len → Took u (all ++ lines)
 took_more t u all lines took lender grew =
     record {
       before = took.before;
@@ -49,11 +49,11 @@ same-origin m n xs ys us vs e =
     }
 
 -- The script is over: the room is the one that was lent, and what stands in it was transcribed.
-pub record Ended (t u : Transcript) (script : List ℕ) : Type 0 where
+pub record Ended (t u : Accounted) (script : List ℕ) : Type 0 where
   pub lender : t.room.ghost_name ≡ u.room.ghost_name
   pub transcribed : Transcribed script t.room.now u.room.now u.len
 
-pub ended : (t u : Transcript) (script : List ℕ) → Played Took u (origin t.room.ghost_name t.room.now) script → Ended t u script
+pub ended : (t u : Accounted) (script : List ℕ) → Played Took u (origin t.room.ghost_name t.room.now) script → Ended t u script
 ended t u script played =
     let took = played.taken in
     let same = same-origin t.room.ghost_name u.room.ghost_name t.room.now took.before played.text (take u.len u.room.now) took.written in

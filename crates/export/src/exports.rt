@@ -5,7 +5,7 @@ ghost use Rattle.std.specs.Prelude.{◌≡◌, ◌⊎◌};
 ghost use Rattle.export.specs.Kept.{AllGood, FirstBad, Kept, Refused};
 ghost use Rattle.export.specs.Transcribed.{Transcribed};
 
-use crate::transcript::Transcript;
+use crate::accounted::Accounted;
 use crate::wire::{WireEntry, WireStep};
 use memory::lent::LentRecorder;
 use memory::play::play_into;
@@ -23,7 +23,7 @@ const REFUSED: u64 = u64::MAX;
 pub fn wendrifoy_play(script: &[u8], transcript: &mut [u8]) -> u64
     ensures { (result ≡ 18446744073709551615) ⊎ Transcribed script.now transcript.old transcript.new result }
 {
-    let mut out = Transcript::new(transcript);
+    let mut out = Accounted::new(transcript);
     // A match, since with `map_or` the proof didn't close.
     match play(script, &mut out) {
         Ok(()) => out.len() as u64,

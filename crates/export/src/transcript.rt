@@ -1,6 +1,6 @@
-// A lent slice that takes what a script's player writes. All of it is accounted for: what was written, and that the rest is as it was lent.
+// A lent slice that takes what a script's player writes.
 ghost use Rattle.std.specs.Prelude.{◌≡◌, ℕ, true, List, ◌++◌, take, is_ok};
-ghost use Rattle.export.specs.Transcribed.{Took};
+ghost use Rattle.export.specs.Transcribed.{Took, accounted};
 
 use crate::room::write_after;
 use script::sink::{Sink, Stopped};
@@ -21,9 +21,10 @@ impl<'a> Transcript<'a> {
         Transcript { room, len: 0 }
     }
 
-    // How many bytes were written.
+    // How many bytes were written. So many of the room are what it took, whatever it took before.
     pub fn len(&self) -> usize
-        ensures { result ≡ self.now.len }
+        ensures len { result ≡ self.now.len }
+        ensures took { ⟦<Transcript<'a> as Sink>⟧.took self.now (take self.now.len self.now.room.now) }
     {
         self.len
     }
@@ -31,11 +32,11 @@ impl<'a> Transcript<'a> {
 
 // Takes the lines, or none of them if there is no room.
 impl<'a> Sink for Transcript<'a> {
-    ghost took = { Took };
+    ghost took = { λ t xs. take t.len t.room.now ≡ xs };
 
     fn take(&mut self, lines: &[u8]) -> Result<(), Stopped>
-        ensures took { is_ok result ≡ true → (xs : List ℕ) → Took self.old xs → Took self.new (xs ++ lines.now) }
-        ensures text { is_ok result ≡ true → take self.new.len self.new.room.now ≡ take self.old.len self.old.room.now ++ lines.now }
+        ensures took { is_ok result ≡ true → (xs : List ℕ) → take self.old.len self.old.room.now ≡ xs → take self.new.len self.new.room.now ≡ xs ++ lines.now }
+        ensures account { is_ok result ≡ true → (xs : List ℕ) → Took (accounted self.old) xs → Took (accounted self.new) (xs ++ lines.now) }
     {
         self.len = write_after(self.room, self.len, lines).ok_or(Stopped)?;
         Ok(())
