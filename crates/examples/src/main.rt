@@ -1,8 +1,16 @@
 // Plays each script of the data folder from an empty scheduler, and compares what it writes with what the rules say.
-// What it does is the table; `rehearsal` does the rest.
+// The table says which.
 #![tactic(auto)]
 
+mod expectation;
+
+use anyhow::anyhow;
+use console::input::each_piece;
+use expectation::first_difference;
+use player::Player;
+use rehearsal::room::Room;
 use rehearsal::scene::Scene;
+use std::fs::File;
 
 // First what is answered, and what is turned away; then whose the ticks are; last what is no command.
 static SCENES: [Scene; 10] = [
@@ -60,7 +68,46 @@ static SCENES: [Scene; 10] = [
 
 fn main(rt: HostRuntime) -> anyhow::Result<()> {
     for scene in &SCENES {
-        scene.rehearse(&rt)?;
+        compare(&rt, scene)?;
     }
     Ok(())
+}
+
+// Says whether the script is answered as expected.
+fn compare(rt: &HostRuntime, scene: &Scene) -> anyhow::Result<()> {
+    let written = play(rt, scene.script)?;
+    let expected = read(rt, scene.expected)?;
+    let expected = std::str::from_utf8(expected.bytes())?;
+    let written = std::str::from_utf8(written.bytes())?;
+    let title = scene.title;
+    let file = scene.expected;
+    match first_difference(expected, written) {
+        None => println!(rt; "{title}: as the rules say")?,
+        Some(line) => println!(rt; "{title}: other than the rules say, at line {line} of {file}")?,
+    }
+    Ok(())
+}
+
+// What is written for the script. It is played as it is read, so that it may have any length.
+fn play(rt: &HostRuntime, name: &str) -> anyhow::Result<Room> {
+    let mut written = Room::new();
+    let mut player = Player::new();
+    each_piece(&mut File::open(rt, name)?, |piece| {
+        player
+            .feed(piece, &mut written)
+            .map_err(|_| anyhow!("the transcript is too long"))
+    })?;
+    player
+        .finish(&mut written)
+        .map_err(|_| anyhow!("the transcript is too long"))?;
+    Ok(written)
+}
+
+fn read(rt: &HostRuntime, name: &str) -> anyhow::Result<Room> {
+    let mut text = Room::new();
+    each_piece(&mut File::open(rt, name)?, |piece| {
+        text.push(piece)
+            .map_err(|_| anyhow!("the expected text is too long"))
+    })?;
+    Ok(text)
 }
