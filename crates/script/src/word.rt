@@ -4,17 +4,22 @@ ghost use Rattle.std.specs.Prelude.{◌≡◌, ℕ, ◌<◌, List, [], ◌∷◌
 ghost use Rattle.script.specs.Grammar.{value_of, number_of};
 ghost use Rattle.script.specs.Taken.{WordTaken};
 
-use arrayvec::ArrayVec;
-
 // No name of the language is longer.
 const LONGEST: usize = 8;
 
-#[derive(Drop)]
+#[derive(Clone, Copy)]
 pub struct Word {
     // its bytes, unless it is too long to be a name
-    name: Option<ArrayVec<u8, LONGEST>>,
+    name: Option<Name>,
     // what it comes to as a decimal number below 2^32, if it is one
     value: Option<u32>,
+}
+
+#[derive(Clone, Copy)]
+struct Name {
+    // its bytes, and zeros after them
+    bytes: [u8; 8],
+    len: usize,
 }
 
 impl Default for Word {
@@ -31,7 +36,10 @@ impl Word {
         ensures { WordTaken result [] }
     {
         Word {
-            name: Some(ArrayVec::new()),
+            name: Some(Name {
+                bytes: [0; 8],
+                len: 0,
+            }),
             value: Some(0),
         }
     }
@@ -40,7 +48,7 @@ impl Word {
         ensures { (xs : List ℕ) → WordTaken self.now xs → result ≡ (length xs == 0) }
     {
         match &self.name {
-            Some(name) => name.is_empty(),
+            Some(name) => name.len == 0,
             None => false,
         }
     }
@@ -51,7 +59,10 @@ impl Word {
     {
         self.value = one_digit_more(self.value, byte);
         if let Some(name) = &mut self.name {
-            if name.try_push(byte).is_err() {
+            if name.len < LONGEST {
+                name.bytes[name.len] = byte;
+                name.len += 1;
+            } else {
                 self.name = None;
             }
         }
@@ -62,7 +73,7 @@ impl Word {
         ensures { (xs : List ℕ) → WordTaken self.now xs → MatchOption result (8 < length xs) (λ name. name.now ≡ xs) }
     {
         match &self.name {
-            Some(name) => Some(name.as_slice()),
+            Some(name) => name.bytes.get(..name.len),
             None => None,
         }
     }

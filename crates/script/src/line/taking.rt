@@ -1,11 +1,11 @@
 // How a line is taken in.
-ghost use Rattle.std.specs.Prelude.{ℕ, List, [], ◌∷◌, ◌++◌};
-ghost use Rattle.script.specs.Taken.{LineTaken};
+ghost use Rattle.std.specs.Prelude.{◌≡◌, ℕ, List, [], ◌∷◌, ◌++◌};
+ghost use Rattle.script.specs.declared.word.Word.{Word};
+ghost use Rattle.script.specs.Taken.{LineTaken, at_most, vec_of};
 
 use super::Line;
 use crate::word::Word;
 use arrayvec::ArrayVec;
-use std::mem;
 
 impl Line {
     pub fn new() -> Line
@@ -32,9 +32,16 @@ impl Line {
     fn next_word(&mut self)
         ensures { (xs : List ℕ) → LineTaken self.old xs → LineTaken self.new (xs ++ (32 ∷ [])) }
     {
-        let word = mem::take(&mut self.last);
+        self.keep_word();
+        self.last = Word::new();
+    }
+
+    // The last word is one that a space has ended.
+    fn keep_word(&mut self)
+        ensures { (ws : List Word) → self.old.ended ≡ at_most 3 vec_of ws → self.new.ended ≡ at_most 3 vec_of (ws ++ (self.old.last ∷ [])) }
+    {
         if let Some(ended) = &mut self.ended {
-            if ended.try_push(word).is_err() {
+            if ended.try_push(self.last).is_err() {
                 self.ended = None;
             }
         }

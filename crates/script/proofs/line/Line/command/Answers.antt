@@ -17,18 +17,18 @@ returns-in-len1 c =
     λ xs t.
     as-two xs t.last_word c.args.self.now.last t.last c.two_words.result c.as_slice.result.now t.ended_words t.cut
     (c.as_slice.ensures.value ∙ their_words c.args.self.now xs t c.in_ok-as_ref.field-0.now c.in_ok-as_ref.ensures.value) (omega (arith, c.in-len1.len_at_least, c.in-len1.len_below))
-    c.verb-item.result c.verb-item.is c.two_words.ensures
+    _ c.two_words.ensures
 
 pub returns-in-len2 : goal.returns-in-len2
 returns-in-len2 c =
     λ xs t.
     as-three xs t.last_word c.args.self.now.last t.last c.three_words.result c.as_slice.result.now t.ended_words t.cut
     (c.as_slice.ensures.value ∙ their_words c.args.self.now xs t c.in_ok-as_ref.field-0.now c.in_ok-as_ref.ensures.value) (omega (arith, c.in-len2.len_at_least, c.in-len2.len_below))
-    c.verb-item-then-this-lt3.result c.first-item.result c.verb-item-then-this-lt3.is c.first-item.is c.three_words.ensures
+    _ _ c.three_words.ensures
 
 pub returns-in-len3 : goal.returns-in-len3
 returns-in-len3 c =
     λ xs t.
     as-four xs t.last_word c.args.self.now.last t.last c.four_words.result c.as_slice.result.now t.ended_words t.cut
     (c.as_slice.ensures.value ∙ their_words c.args.self.now xs t c.in_ok-as_ref.field-0.now c.in_ok-as_ref.ensures.value) (omega (arith, c.in-len3.len_at_least, c.in-len3.len_below))
-    c.verb-item-then-this-lt4.result c.first-item-then-this-lt4.result c.second-item.result c.verb-item-then-this-lt4.is c.first-item-then-this-lt4.is c.second-item.is c.four_words.ensures
+    _ _ _ c.four_words.ensures
