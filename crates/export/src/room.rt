@@ -1,5 +1,5 @@
 // Lines written into a lent slice, after what was written there before.
-ghost use Rattle.std.specs.Prelude.{MatchOption};
+ghost use Rattle.std.specs.Prelude.{◌≡◌, ◌+◌, ◌≤◌, ◌++◌, length, take, drop, MatchOption};
 ghost use Rattle.export.specs.Room.{Grew, Full};
 
 // Where the lines end that are written from there on; `None`, and nothing written, if there is no room for all of them.
@@ -10,6 +10,17 @@ pub(crate) fn write_after(room: &mut [u8], at: usize, lines: &[u8]) -> Option<us
     if end > room.len() {
         return None;
     }
-    room[at..end].copy_from_slice(lines);
+    write_at(room, at, lines);
     Some(end)
+}
+
+// Writes the bytes from there on: one by one, since a copy of a slice would want `memmove` of whoever links the archive.
+fn write_at(room: &mut [u8], at: usize, bytes: &[u8])
+    requires { at + length bytes.now ≤ length room.old }
+    ensures wrote { take (at + length bytes.now) room.new ≡ take at room.old ++ bytes.now }
+    ensures rest { drop (at + length bytes.now) room.new ≡ drop (at + length bytes.now) room.old }
+{
+    for k in 0..bytes.len() {
+        room[at + k] = bytes[k];
+    }
 }
