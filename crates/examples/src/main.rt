@@ -75,8 +75,10 @@ fn main(rt: HostRuntime) -> anyhow::Result<()> {
 
 // Says whether the script is answered as expected.
 fn compare(rt: &HostRuntime, scene: &Scene) -> anyhow::Result<()> {
-    let written = play(rt, scene.script)?;
-    let expected = read(rt, scene.expected)?;
+    let mut written = Room::new();
+    play(rt, scene.script, &mut written)?;
+    let mut expected = Room::new();
+    read(rt, scene.expected, &mut expected)?;
     let expected = std::str::from_utf8(expected.bytes())?;
     let written = std::str::from_utf8(written.bytes())?;
     let title = scene.title;
@@ -88,26 +90,22 @@ fn compare(rt: &HostRuntime, scene: &Scene) -> anyhow::Result<()> {
     Ok(())
 }
 
-// What is written for the script. It is played as it is read, so that it may have any length.
-fn play(rt: &HostRuntime, name: &str) -> anyhow::Result<Room> {
-    let mut written = Room::new();
+// It is played as it is read, so that it may have any length.
+fn play(rt: &HostRuntime, name: &str, written: &mut Room) -> anyhow::Result<()> {
     let mut player = Player::new();
     each_piece(&mut File::open(rt, name)?, |piece| {
         player
-            .feed(piece, &mut written)
+            .feed(piece, written)
             .map_err(|_| anyhow!("the transcript is too long"))
     })?;
     player
-        .finish(&mut written)
-        .map_err(|_| anyhow!("the transcript is too long"))?;
-    Ok(written)
+        .finish(written)
+        .map_err(|_| anyhow!("the transcript is too long"))
 }
 
-fn read(rt: &HostRuntime, name: &str) -> anyhow::Result<Room> {
-    let mut text = Room::new();
+fn read(rt: &HostRuntime, name: &str, text: &mut Room) -> anyhow::Result<()> {
     each_piece(&mut File::open(rt, name)?, |piece| {
         text.push(piece)
             .map_err(|_| anyhow!("the expected text is too long"))
-    })?;
-    Ok(text)
+    })
 }

@@ -22,16 +22,15 @@ impl Scene {
     // Says whether the script, played from an empty scheduler, is answered as expected. It only reads and prints, of which no
     // clause can say anything.
     pub fn rehearse(&self, rt: &HostRuntime) -> anyhow::Result<()> {
-        let script = read(rt, self.script)?;
-        // Played also where there is nothing to compare with: that the transcript is too long is said first.
-        let (expected, had) = match read(rt, self.expected) {
-            Ok(expected) => (expected, Ok(())),
-            Err(error) => (Room::new(), Err(error)),
-        };
+        let mut script = Room::new();
+        read(rt, self.script, &mut script)?;
+        let mut expected = Room::new();
+        let reading = read(rt, self.expected, &mut expected);
+        // Played even if that couldn't be read, since it is said first that a transcript is too long.
         let apart = first_line_apart(script.bytes(), expected.bytes()).map_err(|_| anyhow!(
             "the transcript is too long"
         ))?;
-        had?;
+        reading?;
         let title = self.title;
         let file = self.expected;
         match apart {
@@ -54,8 +53,6 @@ pub fn first_line_apart(script: &[u8], expected: &[u8]) -> Result<Option<usize>,
     Ok(first_difference(expected, written.bytes()))
 }
 
-fn read(rt: &HostRuntime, name: &str) -> anyhow::Result<Room> {
-    let mut text = Room::new();
-    each_piece(&mut File::open(rt, name)?, |piece| Ok(text.push(piece)?))?;
-    Ok(text)
+fn read(rt: &HostRuntime, name: &str, text: &mut Room) -> anyhow::Result<()> {
+    each_piece(&mut File::open(rt, name)?, |piece| Ok(text.push(piece)?))
 }
