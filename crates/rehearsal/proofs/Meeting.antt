@@ -1,7 +1,7 @@
 -- What the next part, or that there is none, settles.
 use Rattle.std.proofs.Common.{◌≡◌, ℕ, suc, ◌+◌, ◌-◌, ◌<◌, ◌≤◌, Bool, true, false, cond, not, ◌&&◌, List, [], ◌∷◌, is_some, Some, None, Option, MatchOption, sym, refl, arith, Bor}
 use Rattle.rehearsal.specs.Cuts.{cut}
-use Rattle.rehearsal.specs.Expected.{is_tick, ticks_of, after_ticks, word_meets, words_meet, following, more, first_apart, Found}
+use Rattle.rehearsal.specs.Expected.{is_tick, ticks_of, after_ticks, word_meets, words_meet, following, more, only_if_left, first_apart, Found}
 
 -- the next part of these was given, or there was none, and those are left
 abbrev pub Next : List (List ℕ) → Option (Bor (List ℕ)) → List (List ℕ) → Type 0
@@ -70,10 +70,6 @@ pub lines-apart : (n : ℕ) (vs us cs : List (List ℕ)) (w : List ℕ) → vs �
 unfolding first_apart
 lines-apart n vs us cs w e f = rw (e, f) refl
 
--- the number, where a line is left
-pub no_lines_left :
-    (n : ℕ) (vs us ds : List (List ℕ)) (r : Option (Bor (List ℕ))) (o : Option ℕ) (Q : Bor (List ℕ) → Type 0) → vs ≡ [] → Next us r ds → MatchOption r (o ≡ None) Q → ((p : Bor (List ℕ)) → Q p → o ≡ Some n) →
-    o ≡ first_apart n vs us
+pub no_lines_left : (n : ℕ) (vs us : List (List ℕ)) (o : Option ℕ) → vs ≡ [] → o ≡ only_if_left n us → o ≡ first_apart n vs us
 unfolding first_apart
-no_lines_left n vs us ds None o Q v e t f = rw (v, e.0, t) refl
-no_lines_left n vs us ds (Some p) o Q v e t f = rw (v, e, f p t) refl
+no_lines_left n vs us o v e = rw v e

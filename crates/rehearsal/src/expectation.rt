@@ -3,7 +3,7 @@
 ghost use Rattle.std.specs.Prelude.{◌≡◌};
 ghost use Rattle.script.specs.Grammar.{number_of};
 ghost use Rattle.rehearsal.specs.Cuts.{cut, left};
-ghost use Rattle.rehearsal.specs.Expected.{Found, after_ticks, first_apart, following, is_near, is_tick, ticks_of, word_meets, words_meet};
+ghost use Rattle.rehearsal.specs.Expected.{Found, after_ticks, first_apart, following, is_near, is_tick, only_if_left, ticks_of, word_meets, words_meet};
 
 use crate::parts::Parts;
 use script::word::Word;
@@ -22,6 +22,13 @@ pub fn first_difference(expected: &[u8], transcript: &[u8]) -> Option<usize>
         }
         number = number.saturating_add(1);
     }
+    only_if_left(number, &mut lines)
+}
+
+// This number, where lines are left.
+fn only_if_left(number: usize, lines: &mut Parts<'_>) -> Option<usize>
+    ensures { result ≡ only_if_left number (left lines.old) }
+{
     lines.next().map(|_| number)
 }
 

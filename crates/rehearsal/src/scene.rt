@@ -24,13 +24,13 @@ impl Scene {
     pub fn rehearse(&self, rt: &HostRuntime) -> anyhow::Result<()> {
         let mut script = Room::new();
         read(rt, self.script, &mut script)?;
-        // Played also where there is nothing to compare with: that the transcript is too long is said first.
         let mut expected = Room::new();
-        let had = read(rt, self.expected, &mut expected);
+        let reading = read(rt, self.expected, &mut expected);
+        // Played even if that couldn't be read, since it is said first that a transcript is too long.
         let apart = first_line_apart(script.bytes(), expected.bytes()).map_err(|_| anyhow!(
             "the transcript is too long"
         ))?;
-        had?;
+        reading?;
         let title = self.title;
         let file = self.expected;
         match apart {
@@ -53,7 +53,6 @@ pub fn first_line_apart(script: &[u8], expected: &[u8]) -> Result<Option<usize>,
     Ok(first_difference(expected, written.bytes()))
 }
 
-// Into a room that is lent, so that none is moved.
 fn read(rt: &HostRuntime, name: &str, text: &mut Room) -> anyhow::Result<()> {
     each_piece(&mut File::open(rt, name)?, |piece| Ok(text.push(piece)?))
 }

@@ -1,5 +1,5 @@
 -- The next line is met, or isn't, or there is none.
-use Rattle.std.proofs.Common.{rules, ◌∙◌}
+use Rattle.std.proofs.Common.{◌∙◌}
 use Rattle.rehearsal.specs.Cuts.{left}
 use Rattle.rehearsal.proofs.Meeting.{lines_more, lines-apart, no_lines_left}
 use Rattle.rehearsal.proofs.expectation.first_difference.Goals as goal
@@ -29,5 +29,4 @@ loop-want-preserved c = (
 
 pub returns : goal.returns
 returns c =
-    no_lines_left c.loop-want.number (left c.loop-want.want-iterator) (left c.loop-want.lines) (left c.next-2.new.self) _ c.map.result _ c.in-None.ensures.steps.0 c.next-2.ensures.steps c.map.ensures.cases (λ p q. search rules)
-    ∙ c.loop-want.invariant.2
+    no_lines_left c.loop-want.number (left c.loop-want.want-iterator) (left c.loop-want.lines) c.only_if_left.result c.in-None.ensures.steps.0 c.only_if_left.ensures ∙ c.loop-want.invariant.2
