@@ -1,5 +1,5 @@
 // A script in a folder of data, and what it is to be answered.
-ghost use Rattle.std.specs.Prelude.{◌≡◌, ℕ, List, IfOk};
+ghost use Rattle.std.specs.Prelude.{◌≡◌, ℕ, List, ◌++◌, IfOk};
 ghost use Rattle.player.specs.Evening.{Allowed};
 ghost use Rattle.rehearsal.specs.Cuts.{cut};
 ghost use Rattle.rehearsal.specs.Expected.{first_apart};
@@ -24,16 +24,16 @@ impl Scene {
     pub fn rehearse(&self, rt: &HostRuntime) -> anyhow::Result<()> {
         let mut script = Room::new();
         read(rt, self.script, &mut script)?;
-        let mut expected = Room::new();
-        let reading = read(rt, self.expected, &mut expected);
-        // Played even if that couldn't be read, since it is said first that a transcript is too long.
-        let apart = first_line_apart(script.bytes(), expected.bytes()).map_err(|_| anyhow!(
+        // Before the expected text is looked at: that a transcript is too long is said first.
+        let mut written = Room::new();
+        write_answers(script.bytes(), &mut written).map_err(|_| anyhow!(
             "the transcript is too long"
         ))?;
-        reading?;
+        let mut expected = Room::new();
+        read(rt, self.expected, &mut expected)?;
         let title = self.title;
         let file = self.expected;
-        match apart {
+        match first_difference(expected.bytes(), written.bytes()) {
             None => println!(rt; "{title}: as the rules say")?,
             Some(line) => println!(rt;
                 "{title}: other than the rules say, at line {line} of {file}"
@@ -49,8 +49,16 @@ pub fn first_line_apart(script: &[u8], expected: &[u8]) -> Result<Option<usize>,
     ensures { IfOk result (λ line. (written : List ℕ) × Allowed script.now written × (line ≡ first_apart 1 (cut 10 expected.now) (cut 10 written))) }
 {
     let mut written = Room::new();
-    play(script, &mut written)?;
+    write_answers(script, &mut written)?;
     Ok(first_difference(expected, written.bytes()))
+}
+
+// Writes behind what is there what the player writes for the script; `Err` where there is no room for it.
+fn write_answers(script: &[u8], written: &mut Room) -> Result<(), Stopped>
+    ensures { IfOk result (λ _. (text : List ℕ) × Allowed script.now text × (written.new.text.items ≡ written.old.text.items ++ text)) }
+{
+    play(script, written)?;
+    Ok(())
 }
 
 fn read(rt: &HostRuntime, name: &str, text: &mut Room) -> anyhow::Result<()> {
