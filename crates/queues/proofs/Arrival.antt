@@ -4,7 +4,7 @@ use Rattle.std.proofs.lemmas.Bool.{cases_eq, eq-eqb, ne_eqb}
 use Rattle.quantities.specs.Ids.{TaskId, QueueId}
 use Rattle.queues.specs.declared.fifo.Queues.{Queues}
 use Rattle.queues.specs.Members.{Member, Free, times, put}
-use Rattle.queues.specs.Rings.{Holds, Linked, Ring, ends_of, before, place_of}
+use Rattle.queues.specs.Rings.{Holds, Linked, Ring, packed, ends_of, before, place_of}
 use Rattle.queues.specs.Writes.{set_place, joined, appended}
 use Rattle.queues.proofs.Lists.{times_none, member-push, push-member, push-last, times-push}
 use Rattle.queues.proofs.Writes.{Sized, sized, Apart, Joins, joins, before-of-end, apart-after, place-leaves, place_here, place-else, place-sized}
@@ -13,24 +13,24 @@ use Rattle.queues.proofs.Chains.{ring-ends, ring-last, ring-kept, ring-with}
 module _ (s : Queues) (f : ℕ → List ℕ) (q : QueueId) (i : TaskId) (h : Holds s f) (free : Free f i.index) where
   -- behind the last, then in front of 64, and then it is said where it stands
   behind : Queues
-  behind = joined q.index (ends_of s q.index).tail (Some i) s
+  behind = joined q.index (ends_of s q.index).tail (packed (Some i)) s
 
   shut : Queues
-  shut = joined q.index (Some i) None behind
+  shut = joined q.index (packed (Some i)) (packed None) behind
 
   come : Queues
-  come = set_place i.index (Some q) shut
+  come = set_place i.index (packed (Some q)) shut
 
   with_it : ℕ → List ℕ
   with_it = put q.index (f q.index ++ (i.index ∷ [])) f
 
   first-join : Joins s behind q.index (before s q.index 64) i.index
   unfolding behind
-  first-join = subst (λ k. Joins s behind q.index k i.index) (sym (before-of-end s q.index 64 (omega arith))) (joins s q.index (ends_of s q.index).tail (Some i) (sized s h.members h.queues) q.within)
+  first-join = subst (λ k. Joins s behind q.index k i.index) (sym (before-of-end s q.index 64 (omega arith))) (joins s q.index (ends_of s q.index).tail (packed (Some i)) (sized s h.members h.queues) q.within)
 
   second-join : Joins behind shut q.index i.index 64
   unfolding shut
-  second-join = joins behind q.index (Some i) None first-join.size q.within
+  second-join = joins behind q.index (packed (Some i)) (packed None) first-join.size q.within
 
   last-or-none : (before s q.index 64 ≡ 64) ⊎ Member (before s q.index 64) (f q.index)
   last-or-none = ring-last s q.index 64 (f q.index) (h.ring q.index q.within)
@@ -47,7 +47,7 @@ module _ (s : Queues) (f : ℕ → List ℕ) (q : QueueId) (i : TaskId) (h : Hol
   keeps : (r c d : ℕ) → (c ≡ 64) ⊎ Member c (f r) → (d ≡ 64) ⊎ Member d (f r) → Apart r c q.index (before s q.index 64) → Apart r d q.index 64 → Linked s r c d → Linked come r c d
   unfolding come
   keeps r c d mc md pc pd l =
-      place-leaves shut i.index (Some q) r c d (
+      place-leaves shut i.index (packed (Some q)) r c d (
         second-join.after_kept r c (from-me r c mc) ∙ (first-join.after_kept r c pc ∙ l.0),
         second-join.before-kept r d pd ∙ (first-join.before-kept r d (from-me r d md) ∙ l.1),
       )
@@ -55,14 +55,14 @@ module _ (s : Queues) (f : ℕ → List ℕ) (q : QueueId) (i : TaskId) (h : Hol
   last-linked : Linked come q.index (before s q.index 64) i.index
   unfolding come
   last-linked =
-      place-leaves shut i.index (Some q) q.index (before s q.index 64) i.index (
+      place-leaves shut i.index (packed (Some q)) q.index (before s q.index 64) i.index (
         second-join.after_kept q.index (before s q.index 64) (from-me q.index (before s q.index 64) last-or-none) ∙ first-join.there.0,
         second-join.before-kept q.index i.index (λ l e. omega arith, λ l k e. omega arith) ∙ first-join.there.1,
       )
 
   closed : Linked come q.index i.index 64
   unfolding come
-  closed = place-leaves shut i.index (Some q) q.index i.index 64 second-join.there
+  closed = place-leaves shut i.index (packed (Some q)) q.index i.index 64 second-join.there
 
   own-ring : Ring come q.index 64 (f q.index ++ (i.index ∷ []))
   own-ring = ring-with s come q.index i.index last-linked closed 64 (f q.index) kept (h.ring q.index q.within)
@@ -88,15 +88,15 @@ module _ (s : Queues) (f : ℕ → List ℕ) (q : QueueId) (i : TaskId) (h : Hol
 
   come-place : (j : ℕ) → (j ≡ i.index → ⊥) → place_of come j ≡ place_of s j
   unfolding come
-  come-place j n = place-else shut i.index (Some q) j n ∙ (second-join.place_kept j ∙ first-join.place_kept j)
+  come-place j n = place-else shut i.index (packed (Some q)) j n ∙ (second-join.place_kept j ∙ first-join.place_kept j)
 
   here : place_of come i.index ≡ q.index
   unfolding come
-  here = place_here shut i.index (Some q) second-join.size i.within
+  here = place_here shut i.index (packed (Some q)) second-join.size i.within
 
   come-sized : Sized come
   unfolding come
-  come-sized = place-sized shut i.index (Some q) second-join.size
+  come-sized = place-sized shut i.index (packed (Some q)) second-join.size
 
   -- what holds of the queue that grew, and of the others, holds of all
   each : (P : ℕ → List ℕ → Type 0) → P q.index (f q.index ++ (i.index ∷ [])) → ((r : ℕ) → (r ≡ q.index → ⊥) → P r (f r)) → (r : ℕ) → P r (with_it r)

@@ -3,7 +3,7 @@ use Rattle.std.proofs.Common.{◌≡◌, ℕ, ◌<◌, ◌⊎◌, List, None, sy
 use Rattle.std.proofs.lemmas.Bool.{cases_eq}
 use Rattle.queues.specs.declared.fifo.Queues.{Queues}
 use Rattle.queues.specs.Members.{Member, without}
-use Rattle.queues.specs.Rings.{Holds, Linked, Ring, spot, link_of, after, before, place_of}
+use Rattle.queues.specs.Rings.{Holds, Linked, Ring, packed, link_of, after, before, place_of}
 use Rattle.queues.specs.Writes.{set_place, joined, unlinked}
 use Rattle.queues.proofs.Lists.{without-none, member-without, not-without, without-member, times-without}
 use Rattle.queues.proofs.Writes.{Sized, Joins, joins, after-of-member, before-of-member, apart-after, apart-before, place-leaves, place_here, place-else, place-sized, sized}
@@ -15,7 +15,7 @@ module _ (s : Queues) (f : ℕ → List ℕ) (q i : ℕ) (h : Holds s f) (m : Me
   shut = joined q (link_of s i).prev (link_of s i).next s
 
   left : Queues
-  left = set_place i None shut
+  left = set_place i (packed None) shut
 
   size : Sized s
   size = sized s h.members h.queues
@@ -24,7 +24,7 @@ module _ (s : Queues) (f : ℕ → List ℕ) (q i : ℕ) (h : Holds s f) (m : Me
   unfolding shut
   shuts =
       let below = h.member q i m in
-      subst (λ k. Joins s shut q k (after s q i)) (sym (before-of-member s q i below)) (subst (λ k. Joins s shut q (spot (link_of s i).prev) k) (sym (after-of-member s q i below)) (joins s q (link_of s i).prev (link_of s i).next size (h.queue q i m)))
+      subst (λ k. Joins s shut q k (after s q i)) (sym (before-of-member s q i below)) (subst (λ k. Joins s shut q (link_of s i).prev.number k) (sym (after-of-member s q i below)) (joins s q (link_of s i).prev (link_of s i).next size (h.queue q i m)))
 
   neighbours : Linked s q (before s q i) i × Linked s q i (after s q i)
   neighbours = ring-around s q i 64 (f q) (h.ring q (h.queue q i m)) m
@@ -33,14 +33,14 @@ module _ (s : Queues) (f : ℕ → List ℕ) (q i : ℕ) (h : Holds s f) (m : Me
   keeps : (r c d : ℕ) → (c ≡ i → ⊥) → (d ≡ i → ⊥) → Linked s r c d → Linked left r c d
   unfolding left
   keeps r c d nc nd l =
-      place-leaves shut i None r c d (
+      place-leaves shut i (packed None) r c d (
         shuts.after_kept r c (apart-after s r c q (before s q i) (λ e. nd (sym l.0 ∙ (e ∙ neighbours.0.0)))) ∙ l.0,
         shuts.before-kept r d (apart-before s r d q (after s q i) (λ e. nc (sym l.1 ∙ (e ∙ neighbours.1.1)))) ∙ l.1,
       )
 
   closed : Linked left q (before s q i) (after s q i)
   unfolding left
-  closed = place-leaves shut i None q (before s q i) (after s q i) shuts.there
+  closed = place-leaves shut i (packed None) q (before s q i) (after s q i) shuts.there
 
   not_end : 64 ≡ i → ⊥
   not_end e = omega (arith, h.member q i m)
@@ -64,11 +64,11 @@ module _ (s : Queues) (f : ℕ → List ℕ) (q i : ℕ) (h : Holds s f) (m : Me
 
   left-place : (j : ℕ) → (j ≡ i → ⊥) → place_of left j ≡ place_of s j
   unfolding left
-  left-place j n = place-else shut i None j n ∙ shuts.place_kept j
+  left-place j n = place-else shut i (packed None) j n ∙ shuts.place_kept j
 
   nowhere : place_of left i ≡ 64
   unfolding left
-  nowhere = place_here shut i None shuts.size (h.member q i m)
+  nowhere = place_here shut i (packed None) shuts.size (h.member q i m)
 
   left-found : (j : ℕ) → j < 64 → place_of left j < 64 → Member j (without i (f (place_of left j)))
   left-found j b p =
@@ -82,7 +82,7 @@ module _ (s : Queues) (f : ℕ → List ℕ) (q i : ℕ) (h : Holds s f) (m : Me
 
   left-sized : Sized left
   unfolding left
-  left-sized = place-sized shut i None shuts.size
+  left-sized = place-sized shut i (packed None) shuts.size
 
   left-holds : Holds left (λ p. without i (f p))
   unfolding Sized

@@ -1,8 +1,10 @@
 -- What the links stand for: each queue is a ring through 64, which stands for nobody: it follows the last and comes before the first.
 -- Assumes nothing.
 use Rattle.std.specs.Prelude.{◌≡◌, ℕ, ◌<◌, ◌≤◌, cond, List, [], ◌∷◌, Option, None, Some, length, nat_lt, slice_index_or}
+use Rattle.std.proofs.Math.Nat.{le_refl, le_of_lt}
 use Rattle.quantities.specs.declared.ids.Id.{Id}
 use Rattle.queues.specs.Members.{Member, times}
+use Rattle.queues.specs.declared.packed.Packed.{Packed}
 use Rattle.queues.specs.declared.fifo.Link.{Link}
 use Rattle.queues.specs.declared.fifo.Ends.{Ends}
 use Rattle.queues.specs.declared.fifo.Queues.{Queues}
@@ -12,23 +14,31 @@ abbrev pub spot : {K : Type 0} → Option (Id K 64) → ℕ
 spot None = 64
 spot (Some i) = i.index
 
+pub spot-within : {K : Type 0} (whom : Option (Id K 64)) → spot whom ≤ 64
+spot-within None = le_refl 64
+spot-within (Some i) = le_of_lt i.within
+
+-- who is named, or nobody, in one byte
+abbrev pub packed : {K : Type 0} → Option (Id K 64) → Packed K
+packed whom = record { number = spot whom; of = record {}; within = spot-within whom }
+
 abbrev pub link_of : Queues → ℕ → Link
-link_of s i = slice_index_or s.links i (record { next = None; prev = None; at = None })
+link_of s i = slice_index_or s.links i (record { next = packed None; prev = packed None; at = packed None })
 
 abbrev pub ends_of : Queues → ℕ → Ends
-ends_of s q = slice_index_or s.ends q (record { head = None; tail = None })
+ends_of s q = slice_index_or s.ends q (record { head = packed None; tail = packed None })
 
 -- the number of the queue in which i stands, or 64
 abbrev pub place_of : Queues → ℕ → ℕ
-place_of s i = spot (link_of s i).at
+place_of s i = (link_of s i).at.number
 
 -- who comes after a in the ring of q
 unfoldable pub after : Queues → ℕ → ℕ → ℕ
-after s q a = cond (nat_lt a 64) (spot (link_of s a).next) (spot (ends_of s q).head)
+after s q a = cond (nat_lt a 64) (link_of s a).next.number (ends_of s q).head.number
 
 -- who comes before b in the ring of q
 unfoldable pub before : Queues → ℕ → ℕ → ℕ
-before s q b = cond (nat_lt b 64) (spot (link_of s b).prev) (spot (ends_of s q).tail)
+before s q b = cond (nat_lt b 64) (link_of s b).prev.number (ends_of s q).tail.number
 
 abbrev pub Linked : Queues → (q a b : ℕ) → Type 0
 Linked s q a b = (after s q a ≡ b) × (before s q b ≡ a)

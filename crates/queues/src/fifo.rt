@@ -3,26 +3,27 @@
 // Contracts speak of all queues that the links stand for, which are functions from numbers, and no model's value may be that.
 ghost use Rattle.std.specs.Prelude.{◌≡◌, ℕ, false, List, [], ◌∷◌, ◌++◌, is_some};
 ghost use Rattle.queues.specs.Members.{Free, rest, put};
-ghost use Rattle.queues.specs.Rings.{Holds, spot, link_of, ends_of};
+ghost use Rattle.queues.specs.Rings.{Holds, spot, packed, link_of, ends_of};
 ghost use Rattle.queues.specs.Writes.{set_after, set_before, joined, appended, unlinked};
 ghost use Rattle.queues.specs.Outcomes.{First, StandsIn, Pushed, Removed, Moved};
 
-use quantities::ids::{QueueId, TaskId};
+use crate::packed::Packed;
+use quantities::ids::{Queue, QueueId, Task, TaskId};
 
 // Who stands behind a member, who stands before it, and in which queue. Unless it stands in one, the neighbours mean nothing.
 // The links are an arena in fixed memory, since nothing here may use a heap.
 #[derive(Clone, Copy)]
 struct Link {
-    next: Option<TaskId>,
-    prev: Option<TaskId>,
-    at: Option<QueueId>,
+    next: Packed<Task>,
+    prev: Packed<Task>,
+    at: Packed<Queue>,
 }
 
 // Who stands first in a queue, and who last.
 #[derive(Clone, Copy)]
 struct Ends {
-    head: Option<TaskId>,
-    tail: Option<TaskId>,
+    head: Packed<Task>,
+    tail: Packed<Task>,
 }
 
 #[derive(Drop)]
@@ -39,13 +40,13 @@ impl Queues {
     {
         Queues {
             links: [Link {
-                next: None,
-                prev: None,
-                at: None,
+                next: None.into(),
+                prev: None.into(),
+                at: None.into(),
             }; 64],
             ends: [Ends {
-                head: None,
-                tail: None,
+                head: None.into(),
+                tail: None.into(),
             }; 64],
         }
     }
@@ -54,7 +55,7 @@ impl Queues {
     pub fn front(&self, q: QueueId) -> Option<TaskId>
         ensures { (f : ℕ → List ℕ) → Holds self.now f → First (f q.index) result }
     {
-        self.ends(q).head
+        self.ends(q).head.get()
     }
 
     // Who stands right behind i.
@@ -63,14 +64,14 @@ impl Queues {
         ensures free { (f : ℕ → List ℕ) → Holds self.now f → Free f i.index → is_some result ≡ false }
     {
         let link = self.link(i);
-        link.at.and(link.next)
+        link.at.get().and(link.next.get())
     }
 
     // The queue in which i stands.
     pub fn queue_of(&self, i: TaskId) -> Option<QueueId>
         ensures { (f : ℕ → List ℕ) → Holds self.now f → StandsIn f i.index result }
     {
-        self.link(i).at
+        self.link(i).at.get()
     }
 
     // Puts i last, unless it stands in a queue already.
@@ -137,10 +138,10 @@ impl Queues {
     fn append(&mut self, q: QueueId, i: TaskId)
         ensures { self.new ≡ appended q i self.old }
     {
-        let last = self.ends(q).tail;
+        let last = self.ends(q).tail.get();
         self.join(q, last, Some(i));
         self.join(q, Some(i), None);
-        self.links[i.index()].at = Some(q);
+        self.links[i.index()].at = Some(q).into();
     }
 
     // Takes i out of q, in which it stands.
@@ -148,13 +149,13 @@ impl Queues {
         ensures { self.new ≡ unlinked q.index i.index self.old }
     {
         let link = self.link(i);
-        self.join(q, link.prev, link.next);
-        self.links[i.index()].at = None;
+        self.join(q, link.prev.get(), link.next.get());
+        self.links[i.index()].at = None.into();
     }
 
     // Makes b follow a in the ring of q.
     fn join(&mut self, q: QueueId, a: Option<TaskId>, b: Option<TaskId>)
-        ensures { self.new ≡ joined q.index a b self.old }
+        ensures { self.new ≡ joined q.index (packed a) (packed b) self.old }
     {
         self.set_next(q, a, b);
         self.set_prev(q, b, a);
@@ -162,20 +163,20 @@ impl Queues {
 
     // This and the next write different fields: one function with the field as a closure is no plainer.
     fn set_next(&mut self, q: QueueId, a: Option<TaskId>, b: Option<TaskId>)
-        ensures { self.new ≡ set_after q.index (spot a) b self.old }
+        ensures { self.new ≡ set_after q.index (spot a) (packed b) self.old }
     {
         match a {
-            Some(i) => self.links[i.index()].next = b,
-            None => self.ends[q.index()].head = b,
+            Some(i) => self.links[i.index()].next = b.into(),
+            None => self.ends[q.index()].head = b.into(),
         }
     }
 
     fn set_prev(&mut self, q: QueueId, b: Option<TaskId>, a: Option<TaskId>)
-        ensures { self.new ≡ set_before q.index (spot b) a self.old }
+        ensures { self.new ≡ set_before q.index (spot b) (packed a) self.old }
     {
         match b {
-            Some(i) => self.links[i.index()].prev = a,
-            None => self.ends[q.index()].tail = a,
+            Some(i) => self.links[i.index()].prev = a.into(),
+            None => self.ends[q.index()].tail = a.into(),
         }
     }
 }

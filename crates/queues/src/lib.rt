@@ -3,5 +3,6 @@
 #![tactic(auto)]
 
 pub mod fifo;
+mod packed;
 
 pub use fifo::Queues;

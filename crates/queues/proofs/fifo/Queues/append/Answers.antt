@@ -8,4 +8,4 @@ pub returns : goal.returns
 unfolding appended set_place
 returns c =
     let link = link-read c.join-2.new.self c.index.result c.args.i.index c.index.ensures.value c.index-self-index.result (omega arith) in
-    cc (link, c.ends-last.ensures, c.join.ensures, c.join-2.ensures)
+    cc (link, c.ends.ensures, c.get-last.ensures, c.into.ensures, c.join.ensures, c.join-2.ensures)

@@ -8,4 +8,4 @@ pub returns : goal.returns
 unfolding unlinked set_place
 returns c =
     let link = link-read c.join.new.self c.index.result c.args.i.index c.index.ensures.value c.index-self-index.result (omega arith) in
-    cc (link, c.link-link.ensures, c.join.ensures)
+    cc (link, c.link-link.ensures, c.get.ensures, c.get-2.ensures, c.into.ensures, c.join.ensures)
