@@ -15,6 +15,7 @@ pub struct Word {
     value: Option<u32>,
 }
 
+// Not an `ArrayVec`, which isn't `Copy`, as a word is.
 #[derive(Clone, Copy)]
 struct Name {
     // its bytes, and zeros after them

@@ -27,7 +27,7 @@ impl Page {
         ensures text { length (pending self.old) + 20 ≤ 65536 → Wrote self.old self.new (decimal n) }
         ensures most { length (pending self.old) + 20 ≤ 65536 → length (pending self.new) ≤ length (pending self.old) + 20 }
     {
-        // One digit is put as it is: places and most counts have no more, and a buffer costs more than the byte.
+        // One digit is put as it is: many numbers have no more, and a buffer costs more than the byte.
         if n < 10 {
             self.put(b'0' + n as u8);
         } else {
