@@ -90,7 +90,7 @@ fn compare(rt: &HostRuntime, scene: &Scene) -> anyhow::Result<()> {
     Ok(())
 }
 
-// It is played as it is read, so that it may have any length.
+// Writes what the script is answered. It is played as it is read, so that it may have any length.
 fn play(rt: &HostRuntime, name: &str, written: &mut Room) -> anyhow::Result<()> {
     let mut player = Player::new();
     each_piece(&mut File::open(rt, name)?, |piece| {

@@ -57,6 +57,7 @@ pub fn first_line_apart(script: &[u8], expected: &[u8]) -> Result<Option<usize>,
 fn write_answers(script: &[u8], written: &mut Room) -> Result<(), Stopped>
     ensures { IfOk result (λ _. (text : List ℕ) × Allowed script.now text × (written.new.text.items ≡ written.old.text.items ++ text)) }
 {
+    // By `?`: where what `play` gives is handed on as it is, the proof didn't close.
     play(script, written)?;
     Ok(())
 }
